@@ -1,0 +1,4 @@
+pub mod Lowest
+pub mod Turns
+pub mod Founding
+pub mod Owner

@@ -1,0 +1,4 @@
+pub mod Lost
+pub mod Found
+pub mod Progress
+pub mod Memory

@@ -1,0 +1,8 @@
+// Arrays: a shape with a column store.
+mod array;
+mod found;
+mod memory;
+mod steps;
+
+pub use array::Array;
+pub use memory::found_in;

@@ -1,0 +1,6 @@
+pub mod Refusals
+pub mod Rules
+pub mod Shapes
+pub mod Parities
+pub mod Places
+pub mod Figures

@@ -1,0 +1,3 @@
+pub mod Sums
+pub mod Residues
+pub mod Classes

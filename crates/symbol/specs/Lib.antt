@@ -1,0 +1,4 @@
+pub mod Hex
+pub mod Kinds
+pub mod Bytes
+pub mod Stands

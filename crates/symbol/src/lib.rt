@@ -1,0 +1,17 @@
+// Kinds of symbol: what is summed, and how it is written down.
+mod byte;
+mod hex;
+mod kind;
+mod stand;
+#[cfg(test)]
+mod tests;
+
+pub use byte::Byte;
+pub use byte::ByteDebug;
+pub use byte::BytePartialEq;
+pub use byte::ByteSymbol;
+pub use kind::Symbol;
+pub use stand::Stand;
+pub use stand::StandDebug;
+pub use stand::StandPartialEq;
+pub use stand::StandSymbol;

@@ -1,0 +1,126 @@
+// Founds an array of bytes and one of stands for each line `k q p seed` of the input, and prints what the parity columns
+// hold: a checksum of each, and its first symbol. tools/reference.py works out the same lines on its own.
+use array::found_in;
+use code::Refusal;
+use code::RefusalDebug;
+use code::RefusalDisplay;
+use code::RefusalError;
+use code::Shape;
+use std::alloc::Global;
+use std::error::AnyError;
+use symbol::Byte;
+use symbol::ByteSymbol;
+use symbol::Stand;
+use symbol::StandSymbol;
+use symbol::Symbol;
+
+// A linear congruential generator: the high byte of each state is taken.
+#[derive(Drop)]
+struct Random(u32);
+
+impl Random {
+    fn byte(&mut self) -> u8 {
+        self.0 = self.0.wrapping_mul(1664525).wrapping_add(1013904223);
+        (self.0 >> 24) as u8
+    }
+
+    fn symbol<X: Symbol>(&mut self) -> X {
+        let mut bytes = [0u8; 16];
+        for b in bytes.iter_mut() {
+            *b = self.byte();
+        }
+        match X::read_bytes(&bytes[0..X::width()]) {
+            Some(symbol) => symbol,
+            None => X::zero(),
+        }
+    }
+}
+
+// A step of the checksum FNV-1a of 32 bits.
+fn mixed(sum: u32, bytes: &[u8]) -> u32 {
+    let mut sum = sum;
+    for b in bytes {
+        sum = (sum ^ u32::from(*b)).wrapping_mul(16777619);
+    }
+    sum
+}
+
+// The checksum of a column: over the bytes of its symbols in their order.
+fn checksum<X: Symbol>(column: &[X], bytes: &mut [u8]) -> u32 {
+    let mut sum = 2166136261;
+    for symbol in column {
+        let _ = symbol.write_bytes(bytes);
+        sum = mixed(sum, bytes);
+    }
+    sum
+}
+
+// The digits of a symbol.
+fn digits<X: Symbol>(heap: Global, symbol: X, text: &mut [u8]) -> Result<String, AnyError> {
+    let _ = symbol.write_digits(text);
+    let mut out = String::new(heap);
+    for b in text.iter() {
+        out.push(char::from(*b))?;
+    }
+    Ok(out)
+}
+
+fn tell_column<X: Symbol>(rt: &LibcRuntime, column: &[X]) -> Result<(), AnyError> {
+    let Some(first) = column.first() else {
+        return Err("a column without rows".into());
+    };
+    let mut bytes = [0u8; 16];
+    let mut text = [0u8; 32];
+    let sum = checksum(column, &mut bytes[0..X::width()]);
+    let digits = digits(rt.alloc(), *first, &mut text[0..2 * X::width()])?;
+    println!(rt, "  {sum:08X} {digits}")?;
+    Ok(())
+}
+
+// Founds an array of one kind and prints its parity columns.
+fn case<X: Symbol + Clone>(rt: &LibcRuntime, shape: Shape, seed: u32) -> Result<(), AnyError> {
+    let rows = shape.rows();
+    let mut random = Random(seed);
+    let mut cells = vec![in rt.alloc(); X::zero(); shape.columns() * rows]?;
+    let mut work = vec![in rt.alloc(); X::zero(); shape.helpers() * rows]?;
+    for cell in cells.iter_mut().take(shape.k * rows) {
+        *cell = random.symbol();
+    }
+    let reads = found_in(shape, &mut cells, &mut work)?;
+    println!(rt, " {reads} reads")?;
+    for column in cells.chunks(rows.max(1)).skip(shape.k) {
+        tell_column(rt, column)?;
+    }
+    Ok(())
+}
+
+// One line of the input.
+fn line(rt: &LibcRuntime, text: &str) -> Result<(), AnyError> {
+    let mut numbers = [0u32; 4];
+    for (number, word) in numbers.iter_mut().zip(text.split_whitespace()) {
+        *number = word.parse::<u32>()?;
+    }
+    let [k, q, p, seed] = numbers;
+    println!(rt, "{k} {q} {p}")?;
+    match Shape::new(k as usize, q as usize, p as usize) {
+        Ok(shape) => {
+            case::<ByteSymbol>(rt, shape, seed)?;
+            case::<StandSymbol>(rt, shape, seed)
+        }
+        Err(refusal) => {
+            println!(rt, " refused, {refusal}")?;
+            Ok(())
+        }
+    }
+}
+
+fn run(rt: &LibcRuntime) -> Result<(), AnyError> {
+    for text in rt.lines(rt.alloc()) {
+        line(rt, text?.as_str())?;
+    }
+    Ok(())
+}
+
+fn main(rt: LibcRuntime) -> Result<(), AnyError> {
+    rt.report(run(&rt))
+}
