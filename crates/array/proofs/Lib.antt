@@ -1,4 +1,2 @@
 pub mod Lowest
-pub mod Turns
-pub mod Founding
-pub mod Owner
+pub mod Checked

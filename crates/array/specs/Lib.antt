@@ -1,4 +1,3 @@
 pub mod Lost
-pub mod Found
-pub mod Progress
-pub mod Memory
+pub mod Checks
+pub mod Steps

@@ -7,7 +7,7 @@ use symbol::Symbol;
 
 #[derive(Drop)]
 pub struct Array {
-    pub(crate) shape: Shape,
+    pub shape: Shape,
 }
 
 impl Array {
@@ -16,11 +16,5 @@ impl Array {
         ensures { λ r. ⌜ r .shape ≡ shape ⌝ }
     {
         Array { shape }
-    }
-
-    pub fn shape(&self) -> Shape
-        ensures { λ r. ⌜ r ≡ now (self .entry) .shape ⌝ }
-    {
-        self.shape
     }
 }

@@ -1,10 +1,13 @@
-// Arrays: a shape with a column store.
+// Arrays, and what the calls on an array have in common: their checks and their steps.
 mod array;
-mod found;
-mod memory;
+mod checks;
 mod steps;
-#[cfg(test)]
-mod tests;
 
 pub use array::Array;
-pub use memory::found_in;
+pub use checks::check_fit;
+pub use checks::check_room;
+pub use checks::lowest_lost;
+pub use steps::admit;
+pub use steps::clear;
+pub use steps::read;
+pub use steps::write;

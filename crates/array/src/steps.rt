@@ -1,30 +1,18 @@
-// The steps of accepted calls. Only here does a store's refusal become number 16, and no store that keeps its meaning
-// gives one.
+// The steps of accepted calls. Only here does a store's refusal become number 16.
 ghost use mathlib.Core.Path.{_≡_};
-ghost use mathlib.Core.Bool.{false};
-ghost use Prim.Native.Nat.{ℕ, _+_, _*_, _≤_, _<_};
-ghost use lib.ListN.{length, getD};
-ghost use Rattle.code.specs.Parities.{parity-of};
-ghost use Rattle.code.specs.Places.{symbols-of};
-ghost use Rattle.code.specs.Shapes.{parities-of, columns-of, rows-of};
-ghost use Rattle.store.specs.View.{Inside, Column, metered, Written, Admitted};
-ghost use Rattle.array.specs.Found.{Cleared};
-ghost use Rattle.array.specs.Lost.{lowest-lost};
-ghost use Rattle.array.specs.Progress.{Accepts, Loaded, Gathered, Refilled, Renewed, Extended};
+ghost use Rattle.store.specs.Calls.{Reads, Writes, Admits};
+ghost use Rattle.array.specs.Checks.{Cleared};
+ghost use Rattle.array.specs.Steps.{Stepped};
 use code::Refusal;
-use code::Shape;
 use store::ColumnStore;
-use sums::ParityRule;
 use symbol::Symbol;
 
-fn read<X: Symbol, S: ColumnStore<X>>(
+pub fn read<X: Symbol, S: ColumnStore<X>>(
     store: &mut S,
     column: usize,
     row: usize,
 ) -> Result<X, Refusal>
-    requires inside { ⌜ Inside (S·ColumnStore .view (now store)) column row ⌝ }
-    requires present { ⌜ S·ColumnStore .view (now store) .lost column ≡ false ⌝ }
-    ensures { λ r. ⌜ Accepts (λ x. (x ≡ S·ColumnStore .view (now (store .entry)) .at column row) × (S·ColumnStore .view (now (store .exit)) ≡ metered 1 (S·ColumnStore .view (now (store .entry))))) r ⌝ }
+    ensures { λ r. ⌜ Stepped (λ answer. Reads (S·ColumnStore .view) (now (store .entry)) column row answer (now (store .exit))) r ⌝ }
 {
     match store.read(column, row) {
         Ok(symbol) => Ok(symbol),
@@ -32,14 +20,13 @@ fn read<X: Symbol, S: ColumnStore<X>>(
     }
 }
 
-fn write<X: Symbol, S: ColumnStore<X>>(
+pub fn write<X: Symbol, S: ColumnStore<X>>(
     store: &mut S,
     column: usize,
     row: usize,
     symbol: X,
 ) -> Result<(), Refusal>
-    requires { ⌜ Inside (S·ColumnStore .view (now store)) column row ⌝ }
-    ensures { λ r. ⌜ Accepts (λ _. Written (S·ColumnStore .view (now (store .entry))) column row symbol (S·ColumnStore .view (now (store .exit)))) r ⌝ }
+    ensures { λ r. ⌜ Stepped (λ answer. Writes (S·ColumnStore .view) (now (store .entry)) column row symbol answer (now (store .exit))) r ⌝ }
 {
     match store.write(column, row, symbol) {
         Ok(()) => Ok(()),
@@ -47,9 +34,8 @@ fn write<X: Symbol, S: ColumnStore<X>>(
     }
 }
 
-fn admit<X: Symbol, S: ColumnStore<X>>(store: &mut S, column: usize) -> Result<(), Refusal>
-    requires { ⌜ Column (S·ColumnStore .view (now store)) column ⌝ }
-    ensures { λ r. ⌜ Accepts (λ _. Admitted (S·ColumnStore .view (now (store .entry))) column (S·ColumnStore .view (now (store .exit)))) r ⌝ }
+pub fn admit<X: Symbol, S: ColumnStore<X>>(store: &mut S, column: usize) -> Result<(), Refusal>
+    ensures { λ r. ⌜ Stepped (λ answer. Admits (S·ColumnStore .view) (now (store .entry)) column answer (now (store .exit))) r ⌝ }
 {
     match store.admit(column) {
         Ok(()) => Ok(()),
@@ -57,138 +43,8 @@ fn admit<X: Symbol, S: ColumnStore<X>>(store: &mut S, column: usize) -> Result<(
     }
 }
 
-// The lowest lost one of the first columns, if one is.
-pub(crate) fn lowest_lost<X: Symbol, S: ColumnStore<X>>(store: &S, count: usize) -> Option<usize>
-    requires { ⌜ count ≤ S·ColumnStore .view (now store) .columns ⌝ }
-    ensures { λ r. ⌜ r ≡ lowest-lost (S·ColumnStore .view (now (store .entry)) .lost) count ⌝ }
-{
-    for c in 0..count {
-        if store.is_lost(c + 1) {
-            return Some(c + 1);
-        }
-    }
-    None
-}
-
-// A whole column into the work area.
-fn load_column<X: Symbol, S: ColumnStore<X>>(
-    store: &mut S,
-    column: usize,
-    rows: usize,
-    work: &mut [X],
-    start: usize,
-) -> Result<(), Refusal>
-    requires column { ⌜ Column (S·ColumnStore .view (now store)) column ⌝ }
-    requires rows { ⌜ rows ≤ S·ColumnStore .view (now store) .rows ⌝ }
-    requires present { ⌜ S·ColumnStore .view (now store) .lost column ≡ false ⌝ }
-    requires room { ⌜ start + rows ≤ length (now work) ⌝ }
-    ensures { λ r. ⌜ Accepts (λ _. Loaded (X·Symbol .zero) (S·ColumnStore .view (now (store .entry))) column rows start (now (work .entry)) (S·ColumnStore .view (now (store .exit))) (now (work .exit))) r ⌝ }
-{
-    for row in 0..rows {
-        work[start + row] = read(store, column, row)?;
-    }
-    Ok(())
-}
-
-// The first columns into the work area, one after another.
-pub(crate) fn gather<X: Symbol, S: ColumnStore<X>>(
-    store: &mut S,
-    count: usize,
-    rows: usize,
-    work: &mut [X],
-) -> Result<(), Refusal>
-    requires columns { ⌜ count ≤ S·ColumnStore .view (now store) .columns ⌝ }
-    requires rows { ⌜ rows ≤ S·ColumnStore .view (now store) .rows ⌝ }
-    requires present { ⌜ ((c : ℕ) → 1 ≤ c → c ≤ count → S·ColumnStore .view (now store) .lost c ≡ false) ⌝ }
-    requires room { ⌜ count * rows ≤ length (now work) ⌝ }
-    ensures { λ r. ⌜ Accepts (λ _. Gathered (X·Symbol .zero) rows (S·ColumnStore .view (now (store .entry))) count (S·ColumnStore .view (now (store .exit))) (now (work .exit))) r ⌝ }
-{
-    for c in 0..count {
-        load_column(store, c + 1, rows, work, c * rows)?;
-    }
-    Ok(())
-}
-
-// A row of a parity column, from the data columns one after another.
-fn parity_row<X: Symbol>(
-    shape: Shape,
-    parity: usize,
-    rule: &ParityRule,
-    cells: &[X],
-    row: usize,
-) -> X
-    requires rule { ⌜ (now rule .shape ≡ shape) × (now rule .parity ≡ parity) ⌝ }
-    requires room { ⌜ shape .k * rows-of shape ≤ length (now cells) ⌝ }
-    requires row { ⌜ row < rows-of shape ⌝ }
-    ensures { λ r. ⌜ r ≡ parity-of (X·Symbol .zero) (X·Symbol .plus) shape (symbols-of (X·Symbol .zero) (rows-of shape) (now (cells .entry))) parity row ⌝ }
-{
-    match rule.sum(cells, row) {
-        Some(symbol) => symbol,
-        None => X::zero(),
-    }
-}
-
-// The rows of a parity column.
-fn write_rows<X: Symbol, S: ColumnStore<X>>(
-    store: &mut S,
-    shape: Shape,
-    parity: usize,
-    rule: &ParityRule,
-    cells: &[X],
-) -> Result<(), Refusal>
-    requires rule { ⌜ (now rule .shape ≡ shape) × (now rule .parity ≡ parity) ⌝ }
-    requires parity { ⌜ (1 ≤ parity) × (parity ≤ parities-of shape) ⌝ }
-    requires columns { ⌜ S·ColumnStore .view (now store) .columns ≡ columns-of shape ⌝ }
-    requires rows { ⌜ S·ColumnStore .view (now store) .rows ≡ rows-of shape ⌝ }
-    requires room { ⌜ shape .k * rows-of shape ≤ length (now cells) ⌝ }
-    ensures { λ r. ⌜ Accepts (λ _. Refilled (S·ColumnStore .view (now (store .entry))) (shape .k + parity) (rows-of shape) (parity-of (X·Symbol .zero) (X·Symbol .plus) shape (symbols-of (X·Symbol .zero) (rows-of shape) (now (cells .entry))) parity) (S·ColumnStore .view (now (store .exit)))) r ⌝ }
-{
-    for row in 0..shape.rows() {
-        let symbol = parity_row(shape, parity, rule, cells, row);
-        write(store, shape.k + parity, row, symbol)?;
-    }
-    Ok(())
-}
-
-// A parity column is written, lost or not, and marked present.
-fn write_parity<X: Symbol, S: ColumnStore<X>>(
-    store: &mut S,
-    shape: Shape,
-    parity: usize,
-    cells: &[X],
-) -> Result<(), Refusal>
-    requires parity { ⌜ (1 ≤ parity) × (parity ≤ parities-of shape) ⌝ }
-    requires columns { ⌜ S·ColumnStore .view (now store) .columns ≡ columns-of shape ⌝ }
-    requires rows { ⌜ S·ColumnStore .view (now store) .rows ≡ rows-of shape ⌝ }
-    requires room { ⌜ shape .k * rows-of shape ≤ length (now cells) ⌝ }
-    ensures { λ r. ⌜ Accepts (λ _. Renewed (S·ColumnStore .view (now (store .entry))) (shape .k + parity) (rows-of shape) (parity-of (X·Symbol .zero) (X·Symbol .plus) shape (symbols-of (X·Symbol .zero) (rows-of shape) (now (cells .entry))) parity) (S·ColumnStore .view (now (store .exit)))) r ⌝ }
-{
-    let Some(rule) = ParityRule::of(shape, parity) else {
-        unreachable()
-    };
-    write_rows(store, shape, parity, &rule, cells)?;
-    admit(store, shape.k + parity)?;
-    Ok(())
-}
-
-// All parity columns.
-pub(crate) fn write_parities<X: Symbol, S: ColumnStore<X>>(
-    store: &mut S,
-    shape: Shape,
-    cells: &[X],
-) -> Result<(), Refusal>
-    requires columns { ⌜ S·ColumnStore .view (now store) .columns ≡ columns-of shape ⌝ }
-    requires rows { ⌜ S·ColumnStore .view (now store) .rows ≡ rows-of shape ⌝ }
-    requires room { ⌜ shape .k * rows-of shape ≤ length (now cells) ⌝ }
-    ensures { λ r. ⌜ Accepts (λ _. Extended (S·ColumnStore .view (now (store .entry))) (shape .k) (parities-of shape) (rows-of shape) (parity-of (X·Symbol .zero) (X·Symbol .plus) shape (symbols-of (X·Symbol .zero) (rows-of shape) (now (cells .entry)))) (S·ColumnStore .view (now (store .exit)))) r ⌝ }
-{
-    for j in 0..shape.parities() {
-        write_parity(store, shape, j + 1, cells)?;
-    }
-    Ok(())
-}
-
-pub(crate) fn clear<X: Symbol>(work: &mut [X])
+// Makes every symbol of a work area zero.
+pub fn clear<X: Symbol>(work: &mut [X])
     ensures { λ _. ⌜ Cleared (X·Symbol .zero) (now (work .exit)) ⌝ }
 {
     for i in 0..work.len() {

@@ -5,6 +5,7 @@ use code::RefusalDebug;
 use code::RefusalDisplay;
 use code::RefusalError;
 use code::Shape;
+use recovery::found;
 use std::error::AnyError;
 use std::io;
 use store::ColumnStore;
@@ -72,7 +73,7 @@ fn run(rt: &LibcRuntime) -> Result<(), AnyError> {
     let mut table = Table::over(shape, &mut cells);
     fill(shape, &mut table)?;
     let array = Array::open(shape, &table);
-    let reads = array.found(&mut table, &mut work)?;
+    let reads = found(&array, &mut table, &mut work)?;
     let meter = table.meter();
     println!(
         rt,

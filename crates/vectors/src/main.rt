@@ -1,11 +1,11 @@
 // Founds an array of bytes and one of stands for each line `k q p seed` of the input, and prints what the parity columns
 // hold: a checksum of each, and its first symbol. tools/reference.py works out the same lines on its own.
-use array::found_in;
 use code::Refusal;
 use code::RefusalDebug;
 use code::RefusalDisplay;
 use code::RefusalError;
 use code::Shape;
+use recovery::found_in;
 use std::alloc::Global;
 use std::error::AnyError;
 use symbol::Byte;
