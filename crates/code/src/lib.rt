@@ -4,6 +4,8 @@ ghost use Rattle.code.specs.Figures.{Figures-follow};
 mod numbers;
 mod refusal;
 mod shape;
+#[cfg(test)]
+mod tests;
 mod told;
 
 pub use refusal::Refusal;

@@ -2,6 +2,8 @@
 mod column;
 mod over;
 mod table;
+#[cfg(test)]
+mod tests;
 
 pub use column::ColumnStore;
 pub use over::TableStore;

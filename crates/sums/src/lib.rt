@@ -2,6 +2,8 @@
 mod parity;
 mod position;
 mod rule;
+#[cfg(test)]
+mod tests;
 
 pub use position::symbol_at;
 pub use rule::ParityRule;
