@@ -69,6 +69,32 @@ def parities(shape, data):
     return columns
 
 
+def reading_list(shape, f):
+    """The places that a rebuild of column f reads, found from the sums: every stored symbol that a row's sum takes in."""
+    if f > shape.k:
+        return {(c, row) for c in range(1, shape.k + 1) for row in range(shape.rows)}
+    k, q = shape.k, shape.q
+    g = min(f, k + 1 - f)
+    first = f <= (k + 1) // 2
+    places = set()
+
+    def take(column, position):
+        if position < shape.rows:
+            places.add((column, position))
+        else:
+            places.update((column, a * shape.t + position - shape.rows) for a in range(shape.p - 1))
+
+    for row in range(shape.rows):
+        u = row % q**g // q ** (g - 1)
+        j = 1 if u == 0 else q - u + 1 if first else q + u
+        position = (row + shape.shift(j, f)) % shape.ring
+        take(k + j, position)
+        for i in range(1, k + 1):
+            if i != f:
+                take(i, (position - shape.shift(j, i)) % shape.ring)
+    return places
+
+
 class Random:
     def __init__(self, seed):
         self.state = seed
@@ -103,8 +129,11 @@ def vectors(lines):
             random = Random(seed)
             data = [[random.symbol(width) for _ in range(shape.rows)] for _ in range(k)]
             print(f" {k * shape.rows} reads")
-            for column in parities(shape, data):
+            columns = data + parities(shape, data)
+            for column in columns[k:]:
                 print(f"  {fnv(column, width):08X} {column[0]:0{2 * width}X}")
+            for number, column in enumerate(columns, start=1):
+                print(f"  {number} {len(reading_list(shape, number))} {fnv(column, width):08X}")
 
 
 def demo():
@@ -121,8 +150,20 @@ def demo():
     ]
     print(f"Founded with {shape.k * shape.rows} reads; the meter stands at {shape.k * shape.rows}.")
     print("Stock and cash of rows 0 to 3:")
-    for number, column in enumerate(data + parities(shape, data), start=1):
-        print(f"column {number:2}:" + "".join(f"  {s >> 32:5} {s % 2**32:6}" for s in column[:4]))
+    columns = data + parities(shape, data)
+    tell = lambda number: print(
+        f"column {number:2}:" + "".join(f"  {s >> 32:5} {s % 2**32:6}" for s in columns[number - 1][:4])
+    )
+    for number in range(1, shape.n + 1):
+        tell(number)
+    for lost in (2, 7):
+        count = len(reading_list(shape, lost))
+        print(
+            f"Board {lost} dies. Its column is quoted at {count} reads; "
+            f"whole columns would take {shape.k * shape.rows}."
+        )
+        print(f"Rebuilt; the meter moved by {count}.")
+        tell(lost)
 
 
 if __name__ == "__main__":

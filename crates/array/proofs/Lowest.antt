@@ -5,12 +5,13 @@ use mathlib.Core.Bool.{Bool, true, false, cond}
 use Prim.Native.Nat.{ℕ, zero, suc, _+_, _≤_, _<_}
 use native.Mathlib.Omega.{arith}
 use native.Mathlib.Numerals.{add-one}
+use Rattle.code.specs.Refusals.{or-else}
 use Rattle.std.proofs.shelf.Tests.{cases-eq}
 use Rattle.std.specs.declared.option.Option.{Option}
 use Rattle.std.specs.declared.option.Option.the-variants.{Some, None}
-use Rattle.array.specs.Lost.{or-else, lowest-lost}
+use Rattle.array.specs.Lost.{lowest-lost}
 
-both-none : {A : Type 0} (a b : Option A) → or-else a b ≡ None → (a ≡ None) × (b ≡ None)
+pub both-none : {A : Type 0} (a b : Option A) → or-else a b ≡ None → (a ≡ None) × (b ≡ None)
 both-none (Some x) b e = absurd (let z : _≡_ {A = ℕ} 0 1 = cc in omega arith)
 both-none None b e = (refl, e)
 

@@ -3,13 +3,9 @@ use mathlib.Core.Bool.{Bool, cond}
 use Prim.Native.Nat.{ℕ, zero, suc, _+_}
 use Rattle.std.specs.declared.option.Option.{Option}
 use Rattle.std.specs.declared.option.Option.the-variants.{Some, None}
+use Rattle.code.specs.Refusals.{or-else}
 use Rattle.code.specs.declared.refusal.Refusal.{Refusal}
 use Rattle.code.specs.declared.refusal.Refusal.the-variants.{ColumnLost}
-
--- the first, if there is one, else the second
-abbrev pub or-else : {A : Type 0} → Option A → Option A → Option A
-or-else (Some a) next = Some a
-or-else None next = next
 
 -- the lowest lost one of the columns 1 to n, if one is
 abbrev pub lowest-lost : (ℕ → Bool) → ℕ → Option ℕ

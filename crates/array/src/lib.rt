@@ -9,5 +9,6 @@ pub use checks::check_room;
 pub use checks::lowest_lost;
 pub use steps::admit;
 pub use steps::clear;
+pub use steps::drop_column;
 pub use steps::read;
 pub use steps::write;

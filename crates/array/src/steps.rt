@@ -1,6 +1,6 @@
 // The steps of accepted calls. Only here does a store's refusal become number 16.
 ghost use mathlib.Core.Path.{_≡_};
-ghost use Rattle.store.specs.Calls.{Reads, Writes, Admits};
+ghost use Rattle.store.specs.Calls.{Reads, Writes, Drops, Admits};
 ghost use Rattle.array.specs.Checks.{Cleared};
 ghost use Rattle.array.specs.Steps.{Stepped};
 use code::Refusal;
@@ -29,6 +29,18 @@ pub fn write<X: Symbol, S: ColumnStore<X>>(
     ensures { λ r. ⌜ Stepped (λ answer. Writes (S·ColumnStore .view) (now (store .entry)) column row symbol answer (now (store .exit))) r ⌝ }
 {
     match store.write(column, row, symbol) {
+        Ok(()) => Ok(()),
+        Err(e) => Err(Refusal::StoreRefused { number: e.number() }),
+    }
+}
+
+pub fn drop_column<X: Symbol, S: ColumnStore<X>>(
+    store: &mut S,
+    column: usize,
+) -> Result<(), Refusal>
+    ensures { λ r. ⌜ Stepped (λ answer. Drops (S·ColumnStore .view) (now (store .entry)) column answer (now (store .exit))) r ⌝ }
+{
+    match store.drop_column(column) {
         Ok(()) => Ok(()),
         Err(e) => Err(Refusal::StoreRefused { number: e.number() }),
     }

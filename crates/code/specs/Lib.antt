@@ -3,4 +3,3 @@ pub mod Rules
 pub mod Shapes
 pub mod Parities
 pub mod Places
-pub mod Figures

@@ -47,3 +47,8 @@ values-of (StoreRefused number) = number ∷ 0 ∷ []
 -- one check: refused where it is bad, else whatever the checks after it say
 abbrev pub refuse : Bool → Refusal → Option Refusal → Option Refusal
 refuse bad e next = cond bad (Some e) next
+
+-- the first, if there is one, else the second
+abbrev pub or-else : {A : Type 0} → Option A → Option A → Option A
+or-else (Some a) next = Some a
+or-else None next = next

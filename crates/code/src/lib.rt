@@ -1,6 +1,4 @@
 // The code: its refusals, its shapes and their numbers. What it sums is defined in specs/Parities.antt.
-ghost use Rattle.code.specs.Figures.{Figures-follow};
-
 mod numbers;
 mod refusal;
 mod shape;
@@ -16,10 +14,3 @@ pub use shape::ShapeDebug;
 pub use shape::ShapePartialEq;
 pub use told::RefusalDisplay;
 pub use told::RefusalError;
-
-// The worked figures follow from the definitions.
-pub fn figures_follow() -> bool
-    ensures { λ _. ⌜ Figures-follow ⌝ }
-{
-    true
-}

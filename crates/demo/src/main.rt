@@ -1,4 +1,4 @@
-// A vending route of stands over a table in memory, from its readings to its parity columns.
+// A vending route of stands over a table in memory: its readings, its parity columns, and boards that die and come back.
 use array::Array;
 use code::Refusal;
 use code::RefusalDebug;
@@ -6,6 +6,10 @@ use code::RefusalDisplay;
 use code::RefusalError;
 use code::Shape;
 use recovery::found;
+use recovery::lose;
+use recovery::lost_column;
+use recovery::quote;
+use recovery::rebuild;
 use std::error::AnyError;
 use std::io;
 use store::ColumnStore;
@@ -64,6 +68,35 @@ fn tell_column<S: ColumnStore<Stand>>(
     Ok(())
 }
 
+// A board dies: its column is quoted and rebuilt, and what that cost is told.
+fn tell_rebuild<S: ColumnStore<Stand>>(
+    rt: &LibcRuntime,
+    array: &Array,
+    store: &mut S,
+    work: &mut [Stand],
+    column: usize,
+) -> Result<(), AnyError> {
+    lose(array, store, column)?;
+    let Some(lost) = lost_column(store) else {
+        return Err("nothing is lost".into());
+    };
+    let quote = quote(array, store, lost)?;
+    let count = quote.count();
+    let whole = array.shape.k * array.shape.rows();
+    println!(
+        rt,
+        "Board {lost} dies. Its column is quoted at {count} reads; whole columns would take {whole}."
+    )?;
+    let before = store.meter();
+    match rebuild(array, store, quote, work) {
+        Ok(_) => {}
+        Err(rejected) => return Err(rejected.refusal.into()),
+    }
+    let moved = store.meter().wrapping_sub(before);
+    println!(rt, "Rebuilt; the meter moved by {moved}.")?;
+    tell_column(rt, store, lost)
+}
+
 fn run(rt: &LibcRuntime) -> Result<(), AnyError> {
     let shape = Shape::new(4, 2, 5)?;
     tell_shape(rt, shape)?;
@@ -83,7 +116,8 @@ fn run(rt: &LibcRuntime) -> Result<(), AnyError> {
     for column in 1..=shape.columns() {
         tell_column(rt, &mut table, column)?;
     }
-    Ok(())
+    tell_rebuild(rt, &array, &mut table, &mut work, 2)?;
+    tell_rebuild(rt, &array, &mut table, &mut work, 7)
 }
 
 fn main(rt: LibcRuntime) -> Result<(), AnyError> {

@@ -11,12 +11,12 @@ use Rattle.std.specs.declared.result.Result.the-variants.{Ok, Err}
 use Rattle.code.specs.declared.refusal.Refusal.{Refusal}
 use Rattle.code.specs.declared.refusal.Refusal.the-variants.{StoreDiffers}
 use Rattle.code.specs.declared.shape.Shape.{Shape}
-use Rattle.code.specs.Refusals.{refuse}
+use Rattle.code.specs.Refusals.{refuse, or-else}
 use Rattle.code.specs.Shapes.{parities-of, rows-of}
 use Rattle.code.specs.Parities.{parity-of, Encoded}
 use Rattle.store.specs.View.{View, Column, counts-as-lost}
 use Rattle.array.specs.Checks.{fits, room-refusal, Cleared}
-use Rattle.array.specs.Lost.{or-else, lowest-lost, lost-refusal}
+use Rattle.array.specs.Lost.{lowest-lost, lost-refusal}
 
 -- the refusal of a founding over a store of that view, with a work area of so many symbols; or none
 abbrev pub found-refusal : {X : Type 0} → Shape → View X → ℕ → Option Refusal

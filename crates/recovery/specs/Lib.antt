@@ -1,3 +1,4 @@
 pub mod Found
 pub mod Progress
 pub mod Memory
+pub mod Rebuild

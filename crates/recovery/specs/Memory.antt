@@ -3,6 +3,7 @@ use mathlib.Core.Path.{_≡_}
 use mathlib.Core.List.{List}
 use Prim.Native.Nat.{ℕ, _+_, _-_, _*_, _≤_, _<_}
 use lib.ListN.{length, getD}
+use Rattle.code.specs.Refusals.{or-else}
 use Rattle.std.specs.declared.option.Option.{Option}
 use Rattle.std.specs.declared.option.Option.the-variants.{Some, None}
 use Rattle.std.specs.declared.result.Result.{Result}
@@ -14,7 +15,6 @@ use Rattle.code.specs.Parities.{parity-of}
 use Rattle.code.specs.Places.{symbols-of}
 use Rattle.store.specs.Tables.{needed-of, table-refusal}
 use Rattle.array.specs.Checks.{room-refusal, Cleared}
-use Rattle.array.specs.Lost.{or-else}
 
 -- the refusal of a founding in so many symbols of memory, with a work area of so many; or none
 abbrev pub memory-refusal : Shape → ℕ → ℕ → Option Refusal

@@ -98,7 +98,7 @@ fn write_rows<X: Symbol, S: ColumnStore<X>>(
 }
 
 // A parity column is written, lost or not, and marked present.
-fn write_parity<X: Symbol, S: ColumnStore<X>>(
+pub(crate) fn write_parity<X: Symbol, S: ColumnStore<X>>(
     store: &mut S,
     shape: Shape,
     parity: usize,

@@ -1,17 +1,15 @@
--- Classes and shifts. Only `class-law` and `parity-extra` use that a symbol is its own opposite.
+-- Classes and shifts. Only `at-rest`, `class-law` and `parity-extra` use that a symbol is its own opposite.
 use mathlib.Core.Path.{_≡_, refl, sym, ap, ap₂, _∙_, subst}
-use mathlib.Core.Logic.{_⊎_, inl, inr}
-use mathlib.Core.Bool.{cond, true, false}
-use Prim.Native.Nat.{ℕ, zero, suc, _+_, _-_, _*_, _%_, _/_, _≤_, _<_}
+use mathlib.Core.Logic.{inl, inr}
+use Prim.Native.Nat.{ℕ, suc, _+_, _-_, _*_, _%_, _/_, _≤_, _<_}
 use native.Mathlib.Omega.{arith}
-use native.Mathlib.Nat.{div-add-mod', mod-lt, add-sub-cancel-left, mod-add-mod}
-use lib.Arith.{digits-lt}
-use lib.Dec.{ltb}
+use native.Mathlib.Nat.{div-add-mod', mod-lt, add-sub-cancel-left, mod-add-mod, div-lt-iff-lt-mul, mul-le-mul-left}
+use lib.Arith.{digits-lt, digits-div, digits-mod}
 use Rattle.std.proofs.shelf.Tests.{cases-lt, lt-ltb, le-ltb}
 use Rattle.ring.specs.Sums.{BooleanGroup, sumTo}
-use Rattle.ring.specs.Cyclic.{classSum, symbolAt, shifted, shiftedSum}
+use Rattle.ring.specs.Cyclic.{classSum, symbolAt, Covers, shifted, shiftedSum}
 use Rattle.ring.specs.Laws.{Shifts-keep-classes, Classes-sum-to-none, Parity-obeys-class-sums}
-use Rattle.ring.proofs.Sums.{sum-cong, sum-none, sum-swap, sum-rot, self-l}
+use Rattle.ring.proofs.Sums.{sum-same, sum-cong, sum-none, sum-swap, sum-rot, self-l, sum-rest}
 use Rattle.ring.proofs.Residues.{mod-block, mod-class}
 
 pub keeps-classes : Shifts-keep-classes
@@ -37,19 +35,43 @@ module _ {X : Type 0} (none : X) (plus : X → X → X) (b t : ℕ) where
   pub at-class : (column : ℕ → X) (m : ℕ) → symbolAt none plus b t column (b * t + m) ≡ classSum none plus b t column m
   at-class column m = at-extra column (b * t + m) (omega arith) ∙ rw add-sub-cancel-left
 
-  -- a symbol depends on the rows alone
-  pub at-same : (A B : ℕ → X) (x : ℕ) → x < suc b * t → ((y : ℕ) → y < b * t → A y ≡ B y) → symbolAt none plus b t A x ≡ symbolAt none plus b t B x
-  at-same A B x low same =
+  -- the rows that an extra symbol takes in
+  class-covers : (x a : ℕ) → b * t ≤ x → x < suc b * t → a < b → Covers b t x (a * t + (x - b * t))
+  class-covers x a h low k = let m : x - b * t < t = omega arith in (digits-lt k m, inr (sym (ap (λ u. b * t + u) (digits-mod a m) ∙ omega arith)))
+
+  -- a symbol depends on the rows that it takes in
+  pub at-covered : (A B : ℕ → X) (x : ℕ) → x < suc b * t → ((row : ℕ) → Covers b t x row → A row ≡ B row) → symbolAt none plus b t A x ≡ symbolAt none plus b t B x
+  at-covered A B x low same =
       elim (cases-lt x (b * t)) [
-        | inl h ↦ at-row A x h ∙ same x h ∙ sym (at-row B x h)
-        | inr h ↦ at-extra A x h ∙ sums b (λ a k. same (a * t + (x - b * t)) (digits-lt k (omega arith))) ∙ sym (at-extra B x h)
+        | inl h ↦ at-row A x h ∙ same x (h, inl refl) ∙ sym (at-row B x h)
+        | inr h ↦ at-extra A x h ∙ sum-same none plus b _ _ (λ a k. same (a * t + (x - b * t)) (class-covers x a h low k)) ∙ sym (at-extra B x h)
       ]
-    where
-      sums : (n : ℕ) → ((a : ℕ) → a < n → A (a * t + (x - b * t)) ≡ B (a * t + (x - b * t))) → sumTo none plus n (λ a. A (a * t + (x - b * t))) ≡ sumTo none plus n (λ a. B (a * t + (x - b * t)))
-      sums zero h = refl
-      sums (suc n) h = ap₂ plus (sums n (λ a k. h a (omega arith))) (h n (omega arith))
+
+  pub at-same : (A B : ℕ → X) (x : ℕ) → x < suc b * t → ((y : ℕ) → y < b * t → A y ≡ B y) → symbolAt none plus b t A x ≡ symbolAt none plus b t B x
+  at-same A B x low same = at-covered A B x low (λ row c. same row (c .0))
 
 module _ {X : Type 0} {none : X} {plus : X → X → X} (L : BooleanGroup none plus) (b t : ℕ) where
+  -- a symbol takes a row in once: if all other rows are equal, and the symbol, then so is that row
+  pub at-rest : (A B : ℕ → X) (x row : ℕ) → Covers b t x row → ((y : ℕ) → y < b * t → (y ≡ row → ⊥) → A y ≡ B y) → symbolAt none plus b t A x ≡ symbolAt none plus b t B x → A row ≡ B row
+  at-rest A B x row (low, inl e) same same-at = let h : x < b * t = omega arith in ap A (sym e) ∙ sym (at-row none plus b t A x h) ∙ same-at ∙ at-row none plus b t B x h ∙ ap B e
+  at-rest A B x row (low, inr e) same same-at =
+      ap A (sym place) ∙ sum-rest L b (row / t) (λ a. A (a * t + row % t)) (λ a. B (a * t + row % t)) in-block others sums ∙ ap B place
+    where
+      some : 0 < t
+      some = elim (cases-lt 0 t) [ inl k ↦ k | inr k ↦ omega (arith, mul-le-mul-left b k) ]
+
+      place : row / t * t + row % t ≡ row
+      place = omega (arith, div-add-mod' row t)
+
+      in-block : row / t < b
+      in-block = div-lt-iff-lt-mul some .1 low
+
+      others : (a : ℕ) → a < b → (a ≡ row / t → ⊥) → A (a * t + row % t) ≡ B (a * t + row % t)
+      others a k ne = same (a * t + row % t) (digits-lt k (mod-lt row some)) (λ z. ne (sym (digits-div a (mod-lt row some)) ∙ ap (λ y. y / t) z))
+
+      sums : classSum none plus b t A (row % t) ≡ classSum none plus b t B (row % t)
+      sums = sym (at-class none plus b t A (row % t)) ∙ ap (symbolAt none plus b t A) (sym e) ∙ same-at ∙ ap (symbolAt none plus b t B) e ∙ at-class none plus b t B (row % t)
+
   -- the symbols at the positions of a class sum to nothing
   class-law : (column : ℕ → X) (m : ℕ) → m < t → sumTo none plus (suc b) (λ a. symbolAt none plus b t column (a * t + m)) ≡ none
   class-law column m h =

@@ -1,3 +1,5 @@
 pub mod Sums
 pub mod Residues
 pub mod Classes
+pub mod Window
+pub mod Counts

@@ -1,10 +1,18 @@
 -- Finite sums: pointwise, side by side, one after another, and in a rotated order.
-use mathlib.Core.Path.{_≡_, refl, sym, ap, ap₂, _∙_, subst}
-use mathlib.Core.Logic.{_⊎_, inl, inr}
-use Prim.Native.Nat.{ℕ, zero, suc, _+_, _-_, _*_, _%_, _/_, _≤_, _<_}
+use mathlib.Core.Path.{_≡_, refl, sym, ap, ap₂, _∙_}
+use mathlib.Core.Logic.{inl, inr}
+use mathlib.Core.Bool.{Bool, cond, true, false}
+use Prim.Native.Nat.{ℕ, zero, suc, _+_, _%_, _<_}
 use native.Mathlib.Omega.{arith}
 use native.Mathlib.Nat.{add-suc, add-zero, mod-eq-of-lt, mod-self, mod-add-mod}
+use lib.Dec.{eqb}
+use Rattle.std.proofs.shelf.Tests.{cases-eq, eq-eqb, ne-eqb}
 use Rattle.ring.specs.Sums.{CommutativeMonoid, BooleanGroup, sumTo}
+
+-- pointwise equal below n; this wants no law
+pub sum-same : {X : Type 0} (none : X) (plus : X → X → X) (n : ℕ) (F G : ℕ → X) → ((a : ℕ) → a < n → F a ≡ G a) → sumTo none plus n F ≡ sumTo none plus n G
+sum-same none plus zero F G h = refl
+sum-same none plus (suc n) F G h = ap₂ plus (sum-same none plus n F G (λ a k. h a (omega arith))) (h n (omega arith))
 
 module _ {X : Type 0} {none : X} {plus : X → X → X} (L : CommutativeMonoid none plus) where
   pub left-comm : (a b c : X) → plus a (plus b c) ≡ plus b (plus a c)
@@ -13,10 +21,8 @@ module _ {X : Type 0} {none : X} {plus : X → X → X} (L : CommutativeMonoid n
   pub unit-l : (a : X) → plus none a ≡ a
   unit-l a = L .comm none a ∙ L .unit a
 
-  -- pointwise equal below n
   pub sum-cong : (n : ℕ) (F G : ℕ → X) → ((a : ℕ) → a < n → F a ≡ G a) → sumTo none plus n F ≡ sumTo none plus n G
-  sum-cong zero F G h = refl
-  sum-cong (suc n) F G h = ap₂ plus (sum-cong n F G (λ a k. h a (omega arith))) (h n (omega arith))
+  sum-cong = sum-same none plus
 
   pub sum-none : (n : ℕ) → sumTo none plus n (λ a. none) ≡ none
   sum-none zero = refl
@@ -60,3 +66,34 @@ module _ {X : Type 0} {none : X} {plus : X → X → X} (L : CommutativeMonoid n
 module _ {X : Type 0} {none : X} {plus : X → X → X} (L : BooleanGroup none plus) where
   pub self-l : (a b : X) → plus a (plus a b) ≡ b
   self-l a b = sym (L .monoid .assoc a a b) ∙ ap (λ x. plus x b) (L .own a) ∙ unit-l (L .monoid) b
+
+  -- equal sums with an equal part have equal rests
+  pub cancel : (a b c : X) → plus a b ≡ plus a c → b ≡ c
+  cancel a b c e = sym (self-l a b) ∙ ap (plus a) e ∙ self-l a c
+
+  -- one term alone
+  sum-one : (n i : ℕ) (F : ℕ → X) → i < n → sumTo none plus n (λ a. cond (eqb a i) (F a) none) ≡ F i
+  sum-one zero i F h = absurd (omega arith)
+  sum-one (suc n) i F h =
+      elim (cases-eq n i) [
+        | inl e ↦ ap₂ plus (sum-same none plus n _ (λ a. none) (λ a k. rw (ne-eqb a i (λ z. omega arith))) ∙ sum-none (L .monoid) n) (rw (eq-eqb n i e) (ap F e)) ∙ unit-l (L .monoid) (F i)
+        | inr e ↦ ap₂ plus (sum-one n i F (omega arith)) (rw (ne-eqb n i e)) ∙ L .monoid .unit (F i)
+      ]
+
+  -- a sum, and the sum of all its terms but one, differ by that one
+  pub sum-but : (n i : ℕ) (F : ℕ → X) → i < n → plus (sumTo none plus n F) (sumTo none plus n (λ a. cond (eqb a i) none (F a))) ≡ F i
+  sum-but n i F h =
+      sym (sum-add (L .monoid) n F (λ a. cond (eqb a i) none (F a)))
+      ∙ sum-same none plus n _ (λ a. cond (eqb a i) (F a) none) (λ a k. flip (eqb a i) (F a))
+      ∙ sum-one n i F h
+    where
+      flip : (b : Bool) (x : X) → plus x (cond b none x) ≡ cond b x none
+      flip true x = L .monoid .unit x
+      flip false x = L .own x
+
+  -- equal sums whose terms are equal but at one place are equal there too
+  pub sum-rest : (n i : ℕ) (F G : ℕ → X) → i < n → ((a : ℕ) → a < n → (a ≡ i → ⊥) → F a ≡ G a) → sumTo none plus n F ≡ sumTo none plus n G → F i ≡ G i
+  sum-rest n i F G h same e = sym (sum-but n i F h) ∙ ap₂ plus e (sum-same none plus n _ _ others) ∙ sum-but n i G h
+    where
+      others : (a : ℕ) → a < n → cond (eqb a i) none (F a) ≡ cond (eqb a i) none (G a)
+      others a k = elim (cases-eq a i) [ inl z ↦ rw (eq-eqb a i z) | inr z ↦ rw (ne-eqb a i z) (same a k z) ]

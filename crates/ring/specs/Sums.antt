@@ -1,6 +1,7 @@
 -- Finite sums, and the laws that sums of symbols obey.
 use mathlib.Core.Path.{_≡_}
-use Prim.Native.Nat.{ℕ, zero, suc}
+use mathlib.Core.Bool.{Bool, cond}
+use Prim.Native.Nat.{ℕ, zero, suc, _+_}
 
 pub record CommutativeMonoid {X : Type 0} (none : X) (plus : X → X → X) : Type 0 where
   pub assoc : (x y z : X) → plus (plus x y) z ≡ plus x (plus y z)
@@ -16,3 +17,7 @@ pub record BooleanGroup {X : Type 0} (none : X) (plus : X → X → X) : Type 0 
 abbrev pub sumTo : {X : Type 0} (none : X) (plus : X → X → X) → ℕ → (ℕ → X) → X
 sumTo none plus zero F = none
 sumTo none plus (suc n) F = plus (sumTo none plus n F) (F n)
+
+-- how many numbers below n pass a test
+abbrev pub count : ℕ → (ℕ → Bool) → ℕ
+count n P = sumTo 0 _+_ n (λ a. cond (P a) 1 0)

@@ -6,4 +6,5 @@ mod rule;
 mod tests;
 
 pub use position::symbol_at;
+pub use position::symbol_from;
 pub use rule::ParityRule;

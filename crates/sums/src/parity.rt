@@ -66,6 +66,14 @@ impl ParityRule {
         })
     }
 
+    // The shift of data column i + 1 at each i.
+    pub fn shifts(&self) -> [usize; 12]
+        ensures twelve { λ r. ⌜ length r ≡ 12 ⌝ }
+        ensures are { λ r. ⌜ ((i : ℕ) → i < now (self .entry) .shape .k → getD r i 0 ≡ shift-of (now (self .entry) .shape) (now (self .entry) .parity) (i + 1)) ⌝ }
+    {
+        self.shifts
+    }
+
     // What data column i + 1 adds to the sum at a position.
     fn term<X: Symbol>(&self, cells: &[X], i: usize, position: usize) -> X
         requires room { ⌜ now self .shape .k * rows-of (now self .shape) ≤ length (now cells) ⌝ }

@@ -4,7 +4,7 @@ ghost use Prim.Native.Nat.{suc, _+_, _*_, _≤_, _<_};
 ghost use lib.ListN.{length};
 ghost use Rattle.ring.specs.Cyclic.{classSum, symbolAt};
 ghost use Rattle.code.specs.Places.{rows-from};
-ghost use Rattle.sums.specs.Sums.{symbol-at};
+ghost use Rattle.sums.specs.Sums.{symbol-at, symbol-from};
 use code::Shape;
 use symbol::Symbol;
 
@@ -50,4 +50,23 @@ pub fn symbol_at<X: Symbol>(shape: Shape, column: &[X], position: usize) -> Opti
         return None;
     }
     Some(at(column, 0, shape.p - 1, shape.classes(), position))
+}
+
+// The symbol at a position of the column of `blocks` times `classes` rows that begins at `start`; none if the cells do not
+// hold its rows, or the ring has no such position.
+pub fn symbol_from<X: Symbol>(
+    cells: &[X],
+    start: usize,
+    blocks: usize,
+    classes: usize,
+    position: usize,
+) -> Option<X>
+    ensures { λ r. ⌜ r ≡ symbol-from (X·Symbol .zero) (X·Symbol .plus) (now (cells .entry)) start blocks classes position ⌝ }
+{
+    let rows = blocks.checked_mul(classes)?;
+    let end = start.checked_add(rows)?;
+    if end > cells.len() || (position >= rows && position - rows >= classes) {
+        return None;
+    }
+    Some(at(cells, start, blocks, classes, position))
 }

@@ -1,13 +1,21 @@
 // Founds an array of bytes and one of stands for each line `k q p seed` of the input, and prints what the parity columns
-// hold: a checksum of each, and its first symbol. tools/reference.py works out the same lines on its own.
+// hold: a checksum of each, and its first symbol. Then it loses and rebuilds each column, and prints the reads and the
+// column's checksum. tools/reference.py works out the same lines on its own.
+use array::Array;
 use code::Refusal;
 use code::RefusalDebug;
 use code::RefusalDisplay;
 use code::RefusalError;
 use code::Shape;
 use recovery::found_in;
+use recovery::lose;
+use recovery::quote;
+use recovery::rebuild;
 use std::alloc::Global;
 use std::error::AnyError;
+use store::ColumnStore;
+use store::Table;
+use store::TableStore;
 use symbol::Byte;
 use symbol::ByteSymbol;
 use symbol::Stand;
@@ -77,7 +85,60 @@ fn tell_column<X: Symbol>(rt: &LibcRuntime, column: &[X]) -> Result<(), AnyError
     Ok(())
 }
 
-// Founds an array of one kind and prints its parity columns.
+// Writes another symbol over each place of a column, as a dead board might.
+fn spoil<X: Symbol, S: ColumnStore<X>>(
+    store: &mut S,
+    column: usize,
+    rows: usize,
+    symbol: X,
+) -> Result<(), AnyError> {
+    for row in 0..rows {
+        store.write(column, row, symbol)?;
+    }
+    Ok(())
+}
+
+// The checksum of a column of a store.
+fn stored<X: Symbol, S: ColumnStore<X>>(
+    store: &mut S,
+    column: usize,
+    rows: usize,
+    bytes: &mut [u8],
+) -> Result<u32, AnyError> {
+    let mut sum = 2166136261;
+    for row in 0..rows {
+        let _ = store.read(column, row)?.write_bytes(bytes);
+        sum = mixed(sum, bytes);
+    }
+    Ok(sum)
+}
+
+// Loses each column in turn, rebuilds it, and prints what that read and what the column holds then.
+fn rebuild_all<X: Symbol, S: ColumnStore<X>>(
+    rt: &LibcRuntime,
+    array: &Array,
+    store: &mut S,
+    work: &mut [X],
+    other: X,
+) -> Result<(), AnyError> {
+    let rows = array.shape.rows();
+    let mut bytes = [0u8; 16];
+    for column in 1..=array.shape.columns() {
+        lose(array, store, column)?;
+        spoil(store, column, rows, other)?;
+        let quote = quote(array, store, column)?;
+        let before = store.meter();
+        if let Err(rejected) = rebuild(array, store, quote, work) {
+            return Err(rejected.refusal.into());
+        }
+        let moved = store.meter().wrapping_sub(before);
+        let sum = stored(store, column, rows, &mut bytes[0..X::width()])?;
+        println!(rt, "  {column} {moved} {sum:08X}")?;
+    }
+    Ok(())
+}
+
+// Founds an array of one kind, prints its parity columns, and rebuilds each column.
 fn case<X: Symbol + Clone>(rt: &LibcRuntime, shape: Shape, seed: u32) -> Result<(), AnyError> {
     let rows = shape.rows();
     let mut random = Random(seed);
@@ -91,7 +152,9 @@ fn case<X: Symbol + Clone>(rt: &LibcRuntime, shape: Shape, seed: u32) -> Result<
     for column in cells.chunks(rows.max(1)).skip(shape.k) {
         tell_column(rt, column)?;
     }
-    Ok(())
+    let mut table = Table::over(shape, &mut cells);
+    let array = Array::open(shape, &table);
+    rebuild_all(rt, &array, &mut table, &mut work, random.symbol())
 }
 
 // One line of the input.

@@ -1,0 +1,11 @@
+pub mod Places
+pub mod Parts
+pub mod Shown
+pub mod Refused
+pub mod Lined
+pub mod Sound
+pub mod Stands
+pub mod Texts
+pub mod Kept
+pub mod Views
+pub mod Made

@@ -1,0 +1,10 @@
+pub mod Rounds
+pub mod Frame
+pub mod Listed
+pub mod Size
+pub mod Solves
+pub mod Depends
+pub mod Shows
+pub mod Slots
+pub mod Bounds
+pub mod Planned
