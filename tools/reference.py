@@ -109,10 +109,22 @@ class Random:
 
 
 def fnv(column, width):
+    return fnv_bytes(b for symbol in column for b in symbol.to_bytes(width, "big"))
+
+
+def text_of(shape, columns, lost, width):
+    """The frames of an array: one line for each symbol, by column and row."""
+    return "".join(
+        f"{'L' if c in lost else 'P'} {c:02X} {row:04X} {symbol:0{2 * width}X}\n"
+        for c, column in enumerate(columns, start=1)
+        for row, symbol in enumerate(column)
+    )
+
+
+def fnv_bytes(data):
     total = 2166136261
-    for symbol in column:
-        for b in symbol.to_bytes(width, "big"):
-            total = (total ^ b) * 16777619 % 2**32
+    for b in data:
+        total = (total ^ b) * 16777619 % 2**32
     return total
 
 
@@ -134,6 +146,7 @@ def vectors(lines):
                 print(f"  {fnv(column, width):08X} {column[0]:0{2 * width}X}")
             for number, column in enumerate(columns, start=1):
                 print(f"  {number} {len(reading_list(shape, number))} {fnv(column, width):08X}")
+            print(f"  text {fnv_bytes(text_of(shape, columns, (), width).encode()):08X}")
 
 
 def demo():

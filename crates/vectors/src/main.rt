@@ -1,5 +1,5 @@
 // Founds an array of bytes and one of stands for each line `k q p seed` of the input, and prints what the parity columns
-// hold: a checksum of each, and its first symbol. Then it loses and rebuilds each column, and prints the reads and the
+// hold: a checksum of each, and its first symbol, and a checksum of the text in which the same array was founded. Then it loses and rebuilds each column, and prints the reads and the
 // column's checksum. tools/reference.py works out the same lines on its own.
 use array::Array;
 use code::Refusal;
@@ -7,6 +7,10 @@ use code::RefusalDebug;
 use code::RefusalDisplay;
 use code::RefusalError;
 use code::Shape;
+use frames::FrameStore;
+use frames::Frames;
+use frames::check;
+use recovery::found;
 use recovery::found_in;
 use recovery::lose;
 use recovery::quote;
@@ -120,9 +124,9 @@ fn rebuild_all<X: Symbol, S: ColumnStore<X>>(
     store: &mut S,
     work: &mut [X],
     other: X,
+    bytes: &mut [u8],
 ) -> Result<(), AnyError> {
     let rows = array.shape.rows();
-    let mut bytes = [0u8; 16];
     for column in 1..=array.shape.columns() {
         lose(array, store, column)?;
         spoil(store, column, rows, other)?;
@@ -132,29 +136,139 @@ fn rebuild_all<X: Symbol, S: ColumnStore<X>>(
             return Err(rejected.refusal.into());
         }
         let moved = store.meter().wrapping_sub(before);
-        let sum = stored(store, column, rows, &mut bytes[0..X::width()])?;
+        let sum = stored(store, column, rows, bytes)?;
         println!(rt, "  {column} {moved} {sum:08X}")?;
     }
     Ok(())
 }
 
-// Founds an array of one kind, prints its parity columns, and rebuilds each column.
-fn case<X: Symbol + Clone>(rt: &LibcRuntime, shape: Shape, seed: u32) -> Result<(), AnyError> {
+// One byte as two digits.
+fn push_byte(text: &mut Vec<u8>, value: u8) -> Result<(), AnyError> {
+    let mut digits = [0u8; 2];
+    let _ = Byte { value }.write_digits(&mut digits);
+    text.extend_from_slice(&digits)?;
+    Ok(())
+}
+
+// One frame of a present column.
+fn push_frame<X: Symbol>(
+    text: &mut Vec<u8>,
+    column: usize,
+    row: usize,
+    symbol: X,
+    digits: &mut [u8],
+) -> Result<(), AnyError> {
+    text.extend_from_slice(b"P ")?;
+    push_byte(text, (column % 256) as u8)?;
+    text.push(b' ')?;
+    push_byte(text, (row / 256 % 256) as u8)?;
+    push_byte(text, (row % 256) as u8)?;
+    text.push(b' ')?;
+    let _ = symbol.write_digits(digits);
+    text.extend_from_slice(digits)?;
+    text.push(b'\n')?;
+    Ok(())
+}
+
+// The text of an array whose columns are present.
+fn text_of<X: Symbol>(
+    heap: Global,
+    cells: &[X],
+    rows: usize,
+    digits: &mut [u8],
+) -> Result<Vec<u8>, AnyError> {
+    let mut text = Vec::new(heap);
+    for (column, symbols) in cells.chunks(rows.max(1)).enumerate() {
+        for (row, symbol) in symbols.iter().enumerate() {
+            push_frame(&mut text, column.wrapping_add(1), row, *symbol, digits)?;
+        }
+    }
+    Ok(text)
+}
+
+// Prints the checksum of a text.
+fn tell_text(rt: &LibcRuntime, text: &[u8]) -> Result<(), AnyError> {
+    let sum = mixed(2166136261, text);
+    println!(rt, "  text {sum:08X}")?;
+    Ok(())
+}
+
+// Founds in a text of bytes.
+fn found_bytes(shape: Shape, text: &mut [u8], work: &mut [Byte]) -> Result<usize, Refusal> {
+    check::<ByteSymbol>(shape, text)?;
+    let mut store = Frames::over(shape, text);
+    let array = Array::open(shape, &store);
+    found(&array, &mut store, work)
+}
+
+// Founds in a text of stands.
+fn found_stands(shape: Shape, text: &mut [u8], work: &mut [Stand]) -> Result<usize, Refusal> {
+    check::<StandSymbol>(shape, text)?;
+    let mut store = Frames::over(shape, text);
+    let array = Array::open(shape, &store);
+    found(&array, &mut store, work)
+}
+
+// The symbols of an array that is not founded yet: the data columns are drawn.
+fn drawn<X: Symbol + Clone>(
+    heap: Global,
+    shape: Shape,
+    random: &mut Random,
+) -> Result<Vec<X>, AnyError> {
     let rows = shape.rows();
-    let mut random = Random(seed);
-    let mut cells = vec![in rt.alloc(); X::zero(); shape.columns() * rows]?;
-    let mut work = vec![in rt.alloc(); X::zero(); shape.helpers() * rows]?;
+    let mut cells = vec![in heap; X::zero(); shape.columns() * rows]?;
     for cell in cells.iter_mut().take(shape.k * rows) {
         *cell = random.symbol();
     }
-    let reads = found_in(shape, &mut cells, &mut work)?;
+    Ok(cells)
+}
+
+// Founds an array in a table, prints its parity columns, and rebuilds each column.
+fn table<X: Symbol>(
+    rt: &LibcRuntime,
+    shape: Shape,
+    cells: &mut [X],
+    work: &mut [X],
+    other: X,
+) -> Result<(), AnyError> {
+    let reads = found_in(shape, cells, work)?;
     println!(rt, " {reads} reads")?;
-    for column in cells.chunks(rows.max(1)).skip(shape.k) {
+    for column in cells.chunks(shape.rows().max(1)).skip(shape.k) {
         tell_column(rt, column)?;
     }
-    let mut table = Table::over(shape, &mut cells);
+    let mut table = Table::over(shape, cells);
     let array = Array::open(shape, &table);
-    rebuild_all(rt, &array, &mut table, &mut work, random.symbol())
+    let mut bytes = [0u8; 16];
+    rebuild_all(
+        rt,
+        &array,
+        &mut table,
+        work,
+        other,
+        &mut bytes[0..X::width()],
+    )
+}
+
+fn bytes(rt: &LibcRuntime, shape: Shape, seed: u32) -> Result<(), AnyError> {
+    let mut random = Random(seed);
+    let mut cells = drawn::<ByteSymbol>(rt.alloc(), shape, &mut random)?;
+    let mut work = vec![in rt.alloc(); Byte::zero(); shape.helpers() * shape.rows()]?;
+    let mut digits = [0u8; 2];
+    let mut text = text_of(rt.alloc(), &cells, shape.rows(), &mut digits)?;
+    table(rt, shape, &mut cells, &mut work, random.symbol())?;
+    found_bytes(shape, &mut text, &mut work)?;
+    tell_text(rt, &text)
+}
+
+fn stands(rt: &LibcRuntime, shape: Shape, seed: u32) -> Result<(), AnyError> {
+    let mut random = Random(seed);
+    let mut cells = drawn::<StandSymbol>(rt.alloc(), shape, &mut random)?;
+    let mut work = vec![in rt.alloc(); Stand::zero(); shape.helpers() * shape.rows()]?;
+    let mut digits = [0u8; 12];
+    let mut text = text_of(rt.alloc(), &cells, shape.rows(), &mut digits)?;
+    table(rt, shape, &mut cells, &mut work, random.symbol())?;
+    found_stands(shape, &mut text, &mut work)?;
+    tell_text(rt, &text)
 }
 
 // One line of the input.
@@ -167,8 +281,8 @@ fn line(rt: &LibcRuntime, text: &str) -> Result<(), AnyError> {
     println!(rt, "{k} {q} {p}")?;
     match Shape::new(k as usize, q as usize, p as usize) {
         Ok(shape) => {
-            case::<ByteSymbol>(rt, shape, seed)?;
-            case::<StandSymbol>(rt, shape, seed)
+            bytes(rt, shape, seed)?;
+            stands(rt, shape, seed)
         }
         Err(refusal) => {
             println!(rt, " refused, {refusal}")?;
