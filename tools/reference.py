@@ -2,11 +2,13 @@
 """The code worked out independently of the library, for stored vectors.
 
     tools/reference.py vectors < crates/vectors/stdin   prints what crates/vectors must print
+    tools/reference.py damages                          prints the damaged texts of crates/vectors/stdin
     tools/reference.py demo                             prints what crates/demo must print
 
 A symbol is an integer here (stock in the high 16 bits of a stand, cash in the low 32), a column is a list of them, and
 sums are exclusive ors. Nothing is shared with the library but the rules in docs/CODE.md.
 """
+import re
 import sys
 
 PRIMES = (3, 5, 11, 13, 19, 29, 37, 53, 59, 61, 67, 83, 101)
@@ -128,8 +130,72 @@ def fnv_bytes(data):
     return total
 
 
+def check(shape, text, width):
+    """What the check of a text says."""
+    stride = 11 + 2 * width
+    needed = shape.n * shape.rows * stride
+    if len(text) != needed:
+        return f"refused, 7: the text needs {needed} bytes"
+    frame = re.compile(b"([PL]) ([0-9A-F]{2}) ([0-9A-F]{4}) ([0-9A-F]{%d})\n" % (2 * width))
+    for i in range(shape.n * shape.rows):
+        found = frame.fullmatch(text, i * stride, (i + 1) * stride)
+        if not found or (int(found[2], 16), int(found[3], 16)) != (i // shape.rows + 1, i % shape.rows):
+            return f"refused, 8: line {i + 1} is no frame of its place"
+        if text[i * stride] != text[i // shape.rows * shape.rows * stride]:
+            return f"refused, 9: line {i + 1} has another mark than its column"
+    lost = [c for c in range(1, shape.n + 1) if text[(c - 1) * shape.rows * stride] == ord("L")]
+    return f"passes, column {lost[0]} is lost" if lost else "passes, nothing is lost"
+
+
+def damaged(width, what, a, b):
+    shape = Shape(4, 2, 3)
+    stride = 11 + 2 * width
+    random = Random(77)
+    columns = [[random.symbol(width) for _ in range(shape.rows)] for _ in range(shape.k)]
+    columns += [[0] * shape.rows for _ in range(shape.r)]
+    text = bytearray(text_of(shape, columns, (), width).encode())
+    if what == 0:
+        text[a] = b
+    elif what == 1:
+        del text[a:]
+    elif what == 2:
+        text += b"\n" * a
+    elif what == 3:
+        lines = [text[i * stride : (i + 1) * stride] for i in range(shape.n * shape.rows)]
+        lines[a], lines[b] = lines[b], lines[a]
+        text = b"".join(lines)
+    else:
+        for row in range(shape.rows):
+            text[((a - 1) * shape.rows + row) * stride] = ord("L")
+    print(width, what, a, b)
+    print("", check(shape, bytes(text), width))
+
+
+def damages():
+    """The damages that are tried: lengths, every byte of the first, an inner and the last line, order, marks."""
+    for width in (1, 6):
+        stride = 11 + 2 * width
+        whole = 56 * stride
+        cases = [(0, 0, ord("P")), (1, 0, 0), (1, whole - 1, 0), (1, whole - stride, 0), (2, 1, 0), (2, stride, 0)]
+        for line in (0, 27, 55):
+            for place in range(stride):
+                for byte in "Xa1" if place < 10 else "af" if place < stride - 1 else " ":
+                    cases.append((0, line * stride + place, ord(byte)))
+        for place in (0, 1, 10, stride - 1):
+            cases += [(0, place, b) for b in (0, 47, 58, 64, 71, 96, 103, 255)]
+        cases += [(0, 10 + i, ord(b)) for i in range(2 * width) for b in "0F"]
+        cases += [(3, a, b) for a, b in ((0, 1), (7, 8), (54, 55), (0, 55), (0, 8))]
+        cases += [(0, line * stride, ord("L")) for line in (0, 1, 7, 8, 15, 48, 55)]
+        cases += [(4, column, 0) for column in (1, 4, 7)]
+        for case in cases:
+            print("text", width, *case)
+
+
 def vectors(lines):
     for line in lines:
+        if line.startswith("text "):
+            damaged(*map(int, line.split()[1:]))
+            continue
         k, q, p, seed = map(int, line.split())
         print(k, q, p)
         refused = Shape.refusal(k, q, p)
@@ -182,6 +248,8 @@ def demo():
 if __name__ == "__main__":
     if sys.argv[1:] == ["vectors"]:
         vectors(sys.stdin)
+    elif sys.argv[1:] == ["damages"]:
+        damages()
     elif sys.argv[1:] == ["demo"]:
         demo()
     else:

@@ -1,6 +1,7 @@
 // Founds an array of bytes and one of stands for each line `k q p seed` of the input, and prints what the parity columns
 // hold: a checksum of each, and its first symbol, and a checksum of the text in which the same array was founded. Then it loses and rebuilds each column, and prints the reads and the
-// column's checksum. tools/reference.py works out the same lines on its own.
+// column's checksum. For each line `text width what a b` it checks a
+// damaged text. tools/reference.py works out the same lines on its own.
 use array::Array;
 use code::Refusal;
 use code::RefusalDebug;
@@ -13,6 +14,7 @@ use frames::check;
 use recovery::found;
 use recovery::found_in;
 use recovery::lose;
+use recovery::lost_column;
 use recovery::quote;
 use recovery::rebuild;
 use std::alloc::Global;
@@ -291,9 +293,108 @@ fn line(rt: &LibcRuntime, text: &str) -> Result<(), AnyError> {
     }
 }
 
+// Another byte at a place of a text, if there is such a place.
+fn put(text: &mut [u8], at: usize, byte: u8) {
+    if let Some(place) = text.get_mut(at) {
+        *place = byte;
+    }
+}
+
+// Two lines change places.
+fn swap_lines(text: &mut [u8], stride: usize, a: usize, b: usize) {
+    for i in 0..stride {
+        let x = a.saturating_mul(stride).saturating_add(i);
+        let y = b.saturating_mul(stride).saturating_add(i);
+        if let (Some(first), Some(second)) = (text.get(x).copied(), text.get(y).copied()) {
+            put(text, x, second);
+            put(text, y, first);
+        }
+    }
+}
+
+// What was done to a text: 0 another byte at a place, 1 cut to a length, 2 newlines added, 3 lines changed places, 4 a
+// whole column marked lost.
+fn damage(
+    text: &mut Vec<u8>,
+    stride: usize,
+    rows: usize,
+    what: u32,
+    a: usize,
+    b: usize,
+) -> Result<(), AnyError> {
+    match what {
+        0 => put(text, a, (b % 256) as u8),
+        1 => text.truncate(a),
+        2 => {
+            for _ in 0..a {
+                text.push(b'\n')?;
+            }
+        }
+        3 => swap_lines(text, stride, a, b),
+        _ => {
+            for row in 0..rows {
+                let line = a.saturating_sub(1).saturating_mul(rows).saturating_add(row);
+                put(text, line.saturating_mul(stride), b'L');
+            }
+        }
+    }
+    Ok(())
+}
+
+// What the check says of a text, and what is lost in it.
+fn tell_check(
+    rt: &LibcRuntime,
+    answer: Result<(), Refusal>,
+    lost: Option<usize>,
+) -> Result<(), AnyError> {
+    match (answer, lost) {
+        (Err(refusal), _) => println!(rt, " refused, {refusal}")?,
+        (Ok(()), Some(column)) => println!(rt, " passes, column {column} is lost")?,
+        (Ok(()), None) => println!(rt, " passes, nothing is lost")?,
+    }
+    Ok(())
+}
+
+// A text of one kind of symbol, damaged and checked: the first number of the line is the kind's width.
+fn damaged(rt: &LibcRuntime, text: &str) -> Result<(), AnyError> {
+    let mut numbers = [0u32; 4];
+    for (number, word) in numbers.iter_mut().zip(text.split_whitespace()) {
+        *number = word.parse::<u32>()?;
+    }
+    let [width, what, a, b] = numbers;
+    println!(rt, "{width} {what} {a} {b}")?;
+    let shape = Shape::new(4, 2, 3)?;
+    let mut random = Random(77);
+    if width == 1 {
+        let cells = drawn::<ByteSymbol>(rt.alloc(), shape, &mut random)?;
+        let mut text = text_of(rt.alloc(), &cells, shape.rows(), &mut [0u8; 2])?;
+        damage(&mut text, 13, shape.rows(), what, a as usize, b as usize)?;
+        let answer = check::<ByteSymbol>(shape, &text);
+        tell_check(
+            rt,
+            answer,
+            lost_column(&Frames::<Byte>::over(shape, &mut text)),
+        )
+    } else {
+        let cells = drawn::<StandSymbol>(rt.alloc(), shape, &mut random)?;
+        let mut text = text_of(rt.alloc(), &cells, shape.rows(), &mut [0u8; 12])?;
+        damage(&mut text, 23, shape.rows(), what, a as usize, b as usize)?;
+        let answer = check::<StandSymbol>(shape, &text);
+        tell_check(
+            rt,
+            answer,
+            lost_column(&Frames::<Stand>::over(shape, &mut text)),
+        )
+    }
+}
+
 fn run(rt: &LibcRuntime) -> Result<(), AnyError> {
     for text in rt.lines(rt.alloc()) {
-        line(rt, text?.as_str())?;
+        let text = text?;
+        match text.as_str().strip_prefix("text ") {
+            Some(rest) => damaged(rt, rest)?,
+            None => line(rt, text.as_str())?,
+        }
     }
     Ok(())
 }
