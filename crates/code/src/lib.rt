@@ -2,8 +2,6 @@
 mod numbers;
 mod refusal;
 mod shape;
-#[cfg(test)]
-mod tests;
 mod told;
 
 pub use refusal::Refusal;

@@ -6,8 +6,6 @@ mod frame;
 mod frames;
 mod lines;
 mod store;
-#[cfg(test)]
-mod tests;
 
 pub use checks::check;
 pub use columns::column_part;

@@ -8,8 +8,6 @@ mod quotes;
 mod quoting;
 mod rebuilding;
 mod steps;
-#[cfg(test)]
-mod tests;
 
 pub use both::rebuild_both;
 pub use founding::found;

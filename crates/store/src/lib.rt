@@ -2,8 +2,6 @@
 mod column;
 mod over;
 mod table;
-#[cfg(test)]
-mod tests;
 
 pub use column::ColumnStore;
 pub use over::TableStore;

@@ -2,8 +2,6 @@
 mod parity;
 mod position;
 mod rule;
-#[cfg(test)]
-mod tests;
 
 pub use position::symbol_at;
 pub use position::symbol_from;

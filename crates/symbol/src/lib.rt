@@ -3,8 +3,6 @@ mod byte;
 mod hex;
 mod kind;
 mod stand;
-#[cfg(test)]
-mod tests;
 
 pub use byte::Byte;
 pub use byte::ByteDebug;

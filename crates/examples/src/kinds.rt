@@ -1,14 +1,14 @@
 // Examples of each kind: its digits and bytes both ways, what is refused, edge values and sums.
-use crate::byte::Byte;
-use crate::byte::ByteDebug;
-use crate::byte::BytePartialEq;
-use crate::byte::ByteSymbol;
-use crate::kind::Symbol;
-use crate::stand::Stand;
-use crate::stand::StandDebug;
-use crate::stand::StandPartialEq;
-use crate::stand::StandSymbol;
 use std::test::*;
+use symbol::Byte;
+use symbol::ByteDebug;
+use symbol::BytePartialEq;
+use symbol::ByteSymbol;
+use symbol::Stand;
+use symbol::StandDebug;
+use symbol::StandPartialEq;
+use symbol::StandSymbol;
+use symbol::Symbol;
 
 #[test]
 fn byte_digits() -> Result<(), Fail> {

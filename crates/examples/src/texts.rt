@@ -1,12 +1,12 @@
 // Examples over a text of bytes for the shape 4, 2, 3: 7 columns of 8 rows, 13 bytes a line.
-use crate::checks::check as check_text;
-use crate::columns::column_part;
-use crate::frames::Frames;
-use crate::store::FrameStore;
 use code::Refusal;
 use code::RefusalDebug;
 use code::RefusalPartialEq;
 use code::Shape;
+use frames::FrameStore;
+use frames::Frames;
+use frames::check as check_text;
+use frames::column_part;
 use std::test::*;
 use store::ColumnStore;
 use symbol::Byte;

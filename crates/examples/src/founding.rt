@@ -1,10 +1,10 @@
-use crate::founding::found;
-use crate::memory::found_in;
 use array::Array;
 use code::Refusal;
 use code::RefusalDebug;
 use code::RefusalPartialEq;
 use code::Shape;
+use recovery::found;
+use recovery::found_in;
 use std::test::*;
 use store::ColumnStore;
 use store::Table;

@@ -1,12 +1,12 @@
 // A table of bytes at k 4, q 2, p 3: 7 columns of 8 rows, 56 symbols.
-use crate::column::ColumnStore;
-use crate::over::TableStore;
-use crate::table::Table;
 use code::Refusal;
 use code::RefusalDebug;
 use code::RefusalPartialEq;
 use code::Shape;
 use std::test::*;
+use store::ColumnStore;
+use store::Table;
+use store::TableStore;
 use symbol::Byte;
 use symbol::ByteDebug;
 use symbol::BytePartialEq;

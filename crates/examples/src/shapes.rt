@@ -1,6 +1,6 @@
 // The worked figures: sizes of shapes, refused shapes, and which positions the parities sum.
-use crate::refusal::RefusalDebug;
-use crate::shape::Shape;
+use code::RefusalDebug;
+use code::Shape;
 use std::test::*;
 
 #[test]

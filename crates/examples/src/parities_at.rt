@@ -1,9 +1,9 @@
 // Examples at k 4, q 2, p 3: 8 rows to a column, and a ring of 12 positions.
-use crate::position::symbol_at;
-use crate::rule::ParityRule;
 use code::RefusalDebug;
 use code::Shape;
 use std::test::*;
+use sums::ParityRule;
+use sums::symbol_at;
 use symbol::Byte;
 use symbol::ByteDebug;
 use symbol::BytePartialEq;
