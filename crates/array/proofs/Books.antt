@@ -1,6 +1,6 @@
 -- What keeps a book: refused calls and reads; and the construction's columns for a data table.
 use Rattle.std.proofs.Common.{◌≡◌, ℕ, ◌+◌, ◌-◌, ◌<◌, ◌≤◌, Bool, true, false, sym, ap, ◌∙◌, subst, arith}
-use Rattle.std.proofs.lemmas.Bool.{le_leb, lt_leb}
+use Rattle.std.proofs.lemmas.Bool.{le-leb, lt-leb}
 use Rattle.ring.specs.Sums.{BooleanGroup}
 use Rattle.code.specs.declared.shape.Shape.{Shape}
 use Rattle.code.specs.Parities.{parity_of, Encoded}
@@ -44,10 +44,10 @@ module _ {X : Type 0} (none : X) (plus : X → X → X) (s : Shape) where
 
   module _ (T : ℕ → ℕ → X) where
     pub built_data : (c row : ℕ) → c ≤ s.k → built none plus s T c row ≡ T c row
-    built_data c row low = rw (le_leb c s.k low)
+    built_data c row low = rw (le-leb c s.k low)
 
     pub built_parity : (c row : ℕ) → s.k < c → built none plus s T c row ≡ parity_of none plus s T (c - s.k) row
-    built_parity c row past = rw (lt_leb c s.k past)
+    built_parity c row past = rw (lt-leb c s.k past)
 
     -- the construction's columns are of the construction
     pub built_encoded : BooleanGroup none plus → Encoded none plus s (built none plus s T)

@@ -1,22 +1,22 @@
 -- How large a shape's numbers are.
-use Rattle.std.proofs.Common.{◌≡◌, ℕ, suc, ◌+◌, ◌-◌, ◌*◌, ◌^◌, ◌<◌, ◌≤◌, true, false, cond, ltb, leb, sym, ap, ◌∙◌, mul_le_mul_right, mul_le_mul, mul_le_mul_left, one_mul, pow_suc, add_one, arith}
-use native.Mathlib.Nat.{one_le_pow, pow_le_pow_left, pow_le_pow_right}
+use Rattle.std.proofs.Common.{◌≡◌, ℕ, suc, ◌+◌, ◌-◌, ◌*◌, ◌^◌, ◌<◌, ◌≤◌, true, false, cond, ltb, leb, sym, ap, ◌∙◌, mul-le-mul_right, mul-le-mul, mul-le-mul_left, one-mul, pow-suc, add-one, arith}
+use native.Mathlib.Nat.{one-le-pow, pow-le-pow_left, pow-le-pow_right}
 use Rattle.std.proofs.lemmas.Bool.Decides.{nat_tests}
 use Rattle.code.specs.declared.shape.Shape.{Shape}
 use Rattle.code.specs.Rules.{listed, one_of, classes, rows, shift}
 use Rattle.code.specs.Shapes.{parities_of, columns_of, helpers_of, classes_of, rows_of, positions_of, shift_of}
 
 pub power_more : (q i x : ℕ) → x ≡ q ^ i → x * q ≡ q ^ (i + 1)
-power_more q i x e = ap (λ y. y * q) e ∙ sym (pow_suc q i) ∙ ap (λ n. q ^ n) (sym (add_one i))
+power_more q i x e = ap (λ y. y * q) e ∙ sym (pow-suc q i) ∙ ap (λ n. q ^ n) (sym (add-one i))
 
 pub power_low : (q e : ℕ) → q ≤ 4 → e ≤ 10 → q ^ e ≤ 1048576
-power_low q e h k = omega (arith, pow_le_pow_left h e, pow_le_pow_right {n = 4} (omega arith) k)
+power_low q e h k = omega (arith, pow-le-pow_left h e, pow-le-pow_right {n = 4} (omega arith) k)
 
 pub prime_range : (p : ℕ) → one_of listed p ≡ true → (3 ≤ p) × (p ≤ 101)
 prime_range p h = (grind (arith, nat_tests), grind (arith, nat_tests))
 
 pub rows_low : (q e p : ℕ) → q ≤ 4 → e ≤ 10 → p ≤ 101 → (p - 1) * q ^ e ≤ 104857600
-rows_low q e p h k l = mul_le_mul {n₁ = p - 1} {m₁ = q ^ e} {n₂ = 100} {m₂ = 1048576} (omega arith) (power_low q e h k)
+rows_low q e p h k l = mul-le-mul {n₁ = p - 1} {m₁ = q ^ e} {n₂ = 100} {m₂ = 1048576} (omega arith) (power_low q e h k)
 
 module _ (s : Shape) where
   pub prime_low : 3 ≤ s.p
@@ -26,20 +26,20 @@ module _ (s : Shape) where
   prime_high = (prime_range s.p s.prime).1
 
   pub classes_pos : 1 ≤ classes_of s
-  classes_pos = one_le_pow (s.k - 2) s.q (omega arith)
+  classes_pos = one-le-pow (s.k - 2) s.q (omega arith)
 
   -- p blocks are p - 1 and one more
   pub positions_are : positions_of s ≡ rows_of s + classes_of s
   positions_are = let e : s.p ≡ suc (s.p - 1) = omega (arith, prime_low) in ap (λ p. p * classes_of s) e ∙ omega arith
 
   pub classes_low : 2 * classes_of s ≤ rows_of s
-  classes_low = mul_le_mul_right (classes_of s) (omega (arith, prime_low))
+  classes_low = mul-le-mul_right (classes_of s) (omega (arith, prime_low))
 
   pub positions_low : positions_of s ≤ 8192
   positions_low = omega (arith, positions_are, classes_low, s.small)
 
   step_low : (a n : ℕ) → a ≤ s.q - 1 → n ≤ s.k - 2 → a * s.q ^ n ≤ rows_of s
-  step_low a n h k = mul_le_mul {n₁ = a} {n₂ = s.p - 1} (omega arith) (pow_le_pow_right {n = s.q} (omega arith) k)
+  step_low a n h k = mul-le-mul {n₁ = a} {n₂ = s.p - 1} (omega arith) (pow-le-pow_right {n = s.q} (omega arith) k)
 
   pub shift_low : (j i : ℕ) → 1 ≤ j → j ≤ parities_of s → 1 ≤ i → i ≤ s.k → shift_of s j i ≤ rows_of s
   shift_low j i one last first here =

@@ -1,5 +1,5 @@
 -- What a change of one data symbol changes in the parities.
-use Rattle.std.proofs.Common.{◌≡◌, ℕ, suc, ◌+◌, ◌-◌, ◌*◌, ◌%◌, ◌<◌, ◌≤◌, Bool, cond, ◌||◌, eqb, sym, ap, ◌∙◌, subst, ap₂, mod_lt, arith}
+use Rattle.std.proofs.Common.{◌≡◌, ℕ, suc, ◌+◌, ◌-◌, ◌*◌, ◌%◌, ◌<◌, ◌≤◌, Bool, cond, ◌||◌, eqb, sym, ap, ◌∙◌, subst, ap₂, mod-lt, arith}
 use Rattle.ring.specs.Sums.{CommutativeMonoid, sum_to}
 use Rattle.ring.specs.Cyclic.{symbol_at, shifted}
 use Rattle.ring.proofs.Classes.{at_same}
@@ -14,10 +14,10 @@ module _ (s : Shape) where
   blocks = omega (arith, prime_low s)
 
   in_ring : (x : ℕ) → x % positions_of s < suc (s.p - 1) * classes_of s
-  in_ring x = rw blocks (mod_lt x (omega (arith, positions_are s, classes_pos s)))
+  in_ring x = rw blocks (mod-lt x (omega (arith, positions_are s, classes_pos s)))
 
   class_low : (row : ℕ) → row % classes_of s < classes_of s
-  class_low row = mod_lt row (omega (arith, classes_pos s))
+  class_low row = mod-lt row (omega (arith, classes_pos s))
 
   -- parity j at position x takes a row in just where the shift brings it or its class there
   pub taken : (j c row x : ℕ) → 1 ≤ j → j ≤ parities_of s → 1 ≤ c → c ≤ s.k → row < rows_of s → x < positions_of s →

@@ -1,5 +1,5 @@
 -- An array whose parity rows are their sums is encoded: the sums hold at the extra symbols too.
-use Rattle.std.proofs.Common.{◌≡◌, ℕ, zero, suc, ◌+◌, ◌-◌, ◌*◌, ◌<◌, ◌≤◌, sym, refl, ap, ◌∙◌, ap₂, mod_lt, arith}
+use Rattle.std.proofs.Common.{◌≡◌, ℕ, zero, suc, ◌+◌, ◌-◌, ◌*◌, ◌<◌, ◌≤◌, sym, refl, ap, ◌∙◌, ap₂, mod-lt, arith}
 use Rattle.ring.specs.Sums.{BooleanGroup, sum_to}
 use Rattle.ring.specs.Cyclic.{symbol_at, shifted, shifted_sum}
 use Rattle.ring.proofs.Classes.{at_same, parity_extends}
@@ -18,7 +18,7 @@ pub parity_same :
 parity_same {X} none plus s A B same j x low = terms s.k (λ i h. h)
   where
     term : (i : ℕ) → i < s.k → term_of none plus s A j x i ≡ term_of none plus s B j x i
-    term i h = at_same none plus (s.p - 1) (classes_of s) (A (i + 1)) (B (i + 1)) (shifted (positions_of s) (shift_of s j (i + 1)) x) (rw (blocks s) (mod_lt (x + (positions_of s - shift_of s j (i + 1))) (omega (arith, positions_are s, classes_pos s)))) (λ row k. same (i + 1) row (omega arith) (omega arith) k)
+    term i h = at_same none plus (s.p - 1) (classes_of s) (A (i + 1)) (B (i + 1)) (shifted (positions_of s) (shift_of s j (i + 1)) x) (rw (blocks s) (mod-lt (x + (positions_of s - shift_of s j (i + 1))) (omega (arith, positions_are s, classes_pos s)))) (λ row k. same (i + 1) row (omega arith) (omega arith) k)
 
     terms : (n : ℕ) → ((i : ℕ) → i < n → i < s.k) → sum_to none plus n (term_of none plus s A j x) ≡ sum_to none plus n (term_of none plus s B j x)
     terms zero h = refl

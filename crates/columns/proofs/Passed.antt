@@ -1,6 +1,6 @@
 -- What passed checks say, and what is refused nowhere.
-use Rattle.std.proofs.Common.{◌≡◌, ℕ, ◌+◌, ◌-◌, ◌<◌, ◌≤◌, true, false, not, ◌||◌, ltb, List, length, None, Ok, Err, Result, mul_le_mul_right, arith}
-use Rattle.std.proofs.lemmas.Bool.{le_ltb}
+use Rattle.std.proofs.Common.{◌≡◌, ℕ, ◌+◌, ◌-◌, ◌<◌, ◌≤◌, true, false, not, ◌||◌, ltb, List, length, None, Ok, Err, Result, mul-le-mul_right, arith}
+use Rattle.std.proofs.lemmas.Bool.{le-ltb}
 use Rattle.std.proofs.lemmas.Bool.Decides.{nat_tests}
 use Rattle.code.specs.declared.refusal.Refusal.{Refusal}
 use Rattle.code.specs.declared.shape.Shape.{Shape}
@@ -18,7 +18,7 @@ use Rattle.columns.proofs.Turns.{renewed}
 
 -- the data columns have room in the work area
 pub data_fit : (s : Shape) → data_of s ≤ work_of s
-data_fit s = mul_le_mul_right (rows_of s) (omega arith)
+data_fit s = mul-le-mul_right (rows_of s) (omega arith)
 
 pub record Loadable {X : Type 0} (s : Shape) (g : View X) (room : ℕ) : Type 0 where
   pub fit : fits s g ≡ true
@@ -28,11 +28,11 @@ pub record Loadable {X : Type 0} (s : Shape) (g : View X) (room : ℕ) : Type 0 
 pub loadable : {X : Type 0} (s : Shape) (g : View X) (room : ℕ) → found_refusal s g room ≡ None → Loadable s g room
 loadable s g room h =
     let (fit, later) = passed (not (fits s g)) _ _ h in
-    let (told, roomy_is) = both_none (lost_refusal (lowest_lost (counts_as_lost g) s.k)) _ later in
-    record { fit = is_so (fits s g) fit; present = λ c one last. is_present g c (none_lost (counts_as_lost g) s.k (none_told _ told) c one last); room_is = roomy s room roomy_is }
+    let (told, roomy-is) = both_none (lost_refusal (lowest_lost (counts_as_lost g) s.k)) _ later in
+    record { fit = is_so (fits s g) fit; present = λ c one last. is_present g c (none_lost (counts_as_lost g) s.k (none_told _ told) c one last); room_is = roomy s room roomy-is }
 
 pub passes_parity : {X : Type 0} (s : Shape) (g : View X) (c cells : ℕ) → fits s g ≡ true → s.k < c → c ≤ columns_of s → data_of s ≤ cells → parity_refusal s g c cells ≡ None
-passes_parity s g c cells fit past last room = rw (fit, inside, le_ltb cells (data_of s) room)
+passes_parity s g c cells fit past last room = rw (fit, inside, le-ltb cells (data_of s) room)
   where
     inside : (ltb c (s.k + 1) || ltb (columns_of s) c) ≡ false
     inside = grind (arith, nat_tests)

@@ -1,19 +1,19 @@
 -- One turn more of each loop.
-use Rattle.std.proofs.Common.{◌≡◌, ℕ, ◌+◌, ◌-◌, ◌*◌, ◌%◌, ◌^◌, ◌<◌, ◌≤◌, List, length, get_or, set, sym, ap, ◌∙◌, subst, inl, inr, add_assoc, mul_le_mul_right, mod_eq_of_lt, arith}
-use native.Mathlib.Nat.{mod_add_mod}
+use Rattle.std.proofs.Common.{◌≡◌, ℕ, ◌+◌, ◌-◌, ◌*◌, ◌%◌, ◌^◌, ◌<◌, ◌≤◌, List, length, get_or, set, sym, ap, ◌∙◌, subst, inl, inr, add_assoc, mul-le-mul_right, mod-eq_of_lt, arith}
+use native.Mathlib.Nat.{mod-add-mod}
 use Rattle.std.proofs.lemmas.Bool.{cases_eq}
-use Rattle.std.proofs.lemmas.List.{get_or_set_same, get_or_set_other}
+use Rattle.std.proofs.lemmas.List.{get_or-set_same, get_or-set_other}
 use Rattle.code.specs.Places.{symbols_of}
 use Rattle.store.specs.View.{View, Column, Inside, metered, Written, Admitted}
 use Rattle.columns.specs.Progress.{Loaded, Gathered, Refilled, Renewed}
 
 pub metered_none : {X : Type 0} (g : View X) → g.meter < 2 ^ 64 → g ≡ metered 0 g
 metered_none g h =
-    let e : g.meter ≡ (g.meter + 0) % 2 ^ 64 = sym (mod_eq_of_lt (omega arith) ∙ omega arith) in
+    let e : g.meter ≡ (g.meter + 0) % 2 ^ 64 = sym (mod-eq_of_lt (omega arith) ∙ omega arith) in
     ap (λ m. record { columns = g.columns; rows = g.rows; at = g.at; lost = g.lost; meter = m; lender = g.lender }) e
 
 pub metered_more : {X : Type 0} (g : View X) (a b : ℕ) → metered b (metered a g) ≡ metered (a + b) g
-metered_more g a b = ap (λ m. record { columns = g.columns; rows = g.rows; at = g.at; lost = g.lost; meter = m; lender = g.lender }) (mod_add_mod (g.meter + a) (2 ^ 64) b ∙ ap (λ x. x % 2 ^ 64) (add_assoc g.meter a b))
+metered_more g a b = ap (λ m. record { columns = g.columns; rows = g.rows; at = g.at; lost = g.lost; meter = m; lender = g.lender }) (mod-add-mod (g.meter + a) (2 ^ 64) b ∙ ap (λ x. x % 2 ^ 64) (add_assoc g.meter a b))
 
 pub loaded_more :
     {X : Type 0} (none : X) (g h h' : View X) (c n start : ℕ) (before after : List X) (x : X) → start + n < length after →
@@ -21,11 +21,11 @@ pub loaded_more :
 loaded_more none g h h' c n start before after x room L e m = record {
   meter = m ∙ ap (metered 1) L.meter ∙ metered_more g n 1;
   here = λ row low. elim (cases_eq row n) [
-    | inl same ↦ subst (λ y. get_or (set after (start + n) x) (start + y) none ≡ g.at c y) (sym same) (get_or_set_same after (start + n) x none room ∙ e ∙ ap (λ (v : View _). v.at c n) L.meter)
-    | inr other ↦ get_or_set_other after (start + n) (start + row) x none (λ z. other (omega arith)) ∙ L.here row (omega arith)
+    | inl same ↦ subst (λ y. get_or (set after (start + n) x) (start + y) none ≡ g.at c y) (sym same) (get_or-set_same after (start + n) x none room ∙ e ∙ ap (λ (v : View _). v.at c n) L.meter)
+    | inr other ↦ get_or-set_other after (start + n) (start + row) x none (λ z. other (omega arith)) ∙ L.here row (omega arith)
   ];
-  below = λ y low. get_or_set_other after (start + n) y x none (λ z. omega arith) ∙ L.below y low;
-  above = λ y high. get_or_set_other after (start + n) y x none (λ z. omega arith) ∙ L.above y (omega arith);
+  below = λ y low. get_or-set_other after (start + n) y x none (λ z. omega arith) ∙ L.below y low;
+  above = λ y high. get_or-set_other after (start + n) y x none (λ z. omega arith) ∙ L.above y (omega arith);
 }
 
 pub gathered_more :
@@ -41,7 +41,7 @@ gathered_more none rows n g h h' before work after G L = record {
 }
   where
     place : (c row : ℕ) → 1 ≤ c → c ≤ n → row < rows → (c - 1) * rows + row < n * rows
-    place c row one last low = omega (arith, mul_le_mul_right {m = c - 1 + 1} {n = n} rows (omega arith))
+    place c row one last low = omega (arith, mul-le-mul_right {m = c - 1 + 1} {n = n} rows (omega arith))
 
 pub refilled_more :
     {X : Type 0} (g h h' : View X) (c n : ℕ) (F : ℕ → X) (x : X) → Column g c → n < g.rows →

@@ -1,6 +1,6 @@
 -- A founding keeps the book.
 use Rattle.std.proofs.Common.{◌≡◌, ℕ, ◌-◌, ◌<◌, ◌≤◌, true, false, List, is_ok, Some, None, Ok, Err, Option, Result, unwrap_or, sym, refl, ap, ◌∙◌, inl, inr, arith}
-use Rattle.std.proofs.lemmas.Bool.{cases_lt, le_leb, lt_leb}
+use Rattle.std.proofs.lemmas.Bool.{cases_lt, le-leb, lt-leb}
 use Rattle.code.specs.declared.refusal.Refusal.{Refusal}
 use Rattle.code.specs.declared.shape.Shape.{Shape}
 use Rattle.code.specs.Shapes.{columns_of, rows_of}
@@ -39,8 +39,8 @@ module _ {X : Type 0} (none : X) (plus : X → X → X) (s : Shape) where
     founded_keeps : Keeps none plus s (founds g.at) true g h
     founded_keeps b A = record {
       marks = λ c inside. let was = column_was g h F.columns c inside in F.present c was ∙ elim (cases_lt s.k c) [
-        | inl past ↦ rw (lt_leb c s.k past)
-        | inr data_column ↦ rw (le_leb c s.k data_column) (sym (a.present c was.0 data_column) ∙ A.marks c was)
+        | inl past ↦ rw (lt-leb c s.k past)
+        | inr data_column ↦ rw (le-leb c s.k data_column) (sym (a.present c was.0 data_column) ∙ A.marks c was)
       ];
       symbols = λ T e c row inside present. holds T (table_is b.table A.symbols T e) c row (place_was g h F.columns F.rows c row inside);
     }

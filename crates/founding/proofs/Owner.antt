@@ -1,7 +1,7 @@
 -- What the owner of the memory learns of a founding in it.
-use Rattle.std.proofs.Common.{◌≡◌, ℕ, ◌+◌, ◌-◌, ◌<◌, ◌≤◌, false, ltb, List, ◌++◌, length, get_or, take, drop, Ok, Err, Result, sym, ap, ◌∙◌, subst, arith, take_append_drop}
-use Rattle.std.proofs.lemmas.Bool.{le_ltb, eq_eqb}
-use Rattle.std.proofs.lemmas.List.{get_or_past, get_or_take, get_or_append_left, get_or_append_right, get_or_drop, length_take_le}
+use Rattle.std.proofs.Common.{◌≡◌, ℕ, ◌+◌, ◌-◌, ◌<◌, ◌≤◌, false, ltb, List, ◌++◌, length, get_or, take, drop, Ok, Err, Result, sym, ap, ◌∙◌, subst, arith, take-append-drop}
+use Rattle.std.proofs.lemmas.Bool.{le-ltb, eq-eqb}
+use Rattle.std.proofs.lemmas.List.{get_or_past, get_or-take, get_or_append_left, get_or-append_right, get_or-drop, length-take-le}
 use Rattle.code.specs.declared.refusal.Refusal.{Refusal}
 use Rattle.code.specs.declared.shape.Shape.{Shape}
 use Rattle.code.specs.Shapes.{columns_of, rows_of}
@@ -20,7 +20,7 @@ use Rattle.array.proofs.Lowest.{all_present}
 module _ {X : Type 0} (none : X) (plus : X → X → X) (s : Shape) where
   module _ (cells : List X) (exact : length cells ≡ needed_of s) (owner : ℕ) (t : Table X) (new : Over none s cells owner (table_view none t)) where
     enough : ltb (length cells) (needed_of s) ≡ false
-    enough = le_ltb (length cells) (needed_of s) (omega arith)
+    enough = le-ltb (length cells) (needed_of s) (omega arith)
 
     wide : t.columns ≡ columns_of s
     wide = new.columns ∙ rw enough
@@ -30,7 +30,7 @@ module _ {X : Type 0} (none : X) (plus : X → X → X) (s : Shape) where
 
     -- over a new table only the memory and the work area can be too small
     same_refusal : (room : ℕ) → found_refusal s (table_view none t) room ≡ memory_refusal s (length cells) room
-    same_refusal room = rw (eq_eqb t.columns (columns_of s) wide, eq_eqb t.rows (rows_of s) long, all_present (counts_as_lost (table_view none t)) s.k (λ c one last. counts_present (table_view none t) c one (omega (arith, wide)) (new.lost c (one, omega (arith, wide)))), enough)
+    same_refusal room = rw (eq-eqb t.columns (columns_of s) wide, eq-eqb t.rows (rows_of s) long, all_present (counts_as_lost (table_view none t)) s.k (λ c one last. counts_present (table_view none t) c one (omega (arith, wide)) (new.lost c (one, omega (arith, wide)))), enough)
 
     symbol_is : (c row : ℕ) → (table_view none t).at c row ≡ symbols_of none (rows_of s) cells c row
     symbol_is c row = new.at c row ∙ ap (λ r. symbols_of none r cells c row) long
@@ -39,8 +39,8 @@ module _ {X : Type 0} (none : X) (plus : X → X → X) (s : Shape) where
         (cells' work work' : List X) (r : Result ℕ Refusal) (t' : Table X) → t.cells.now ≡ cells →
         Founds (table_view none) none plus s t work r t' work' → length cells' ≡ length cells → (owner ≡ t'.cells.ghost_name → cells' ≡ t'.cells.now) →
         Fills none plus s cells work r cells' work'
-    owned cells' work work' (Ok n) t' memory (none_refused, F) same_length known = (
-      sym (same_refusal (length work)) ∙ none_refused,
+    owned cells' work work' (Ok n) t' memory (none-refused, F) same_length known = (
+      sym (same_refusal (length work)) ∙ none-refused,
       F.reads,
       record {
         same_data = λ c row one last low. after c row ∙ F.same_data c row one last low ∙ symbol_is c row;
@@ -78,13 +78,13 @@ module _ {X : Type 0} (none : X) (plus : X → X → X) (s : Shape) where
       n = needed_of s
 
       part_long : length part ≡ needed_of s
-      part_long = ap length is ∙ length_take_le (needed_of s) cells enough
+      part_long = ap length is ∙ length-take-le (needed_of s) cells enough
 
       room_same : (room : ℕ) → memory_refusal s (length part) room ≡ memory_refusal s (length cells) room
-      room_same room = rw (le_ltb (length part) (needed_of s) (omega (arith, part_long)), le_ltb (length cells) (needed_of s) enough)
+      room_same room = rw (le-ltb (length part) (needed_of s) (omega (arith, part_long)), le-ltb (length cells) (needed_of s) enough)
 
       front : (c row : ℕ) → 1 ≤ c → c ≤ columns_of s → row < rows_of s → symbols_of none (rows_of s) part c row ≡ symbols_of none (rows_of s) cells c row
-      front c row one last low = ap (λ (l : List X). symbols_of none (rows_of s) l c row) is ∙ get_or_take (needed_of s) cells (place_of (rows_of s) c row) none (place_lt c row (columns_of s) (rows_of s) (needed_of s) one last low (omega arith))
+      front c row one last low = ap (λ (l : List X). symbols_of none (rows_of s) l c row) is ∙ get_or-take (needed_of s) cells (place_of (rows_of s) c row) none (place_lt c row (columns_of s) (rows_of s) (needed_of s) one last low (omega arith))
 
       front' : (c row : ℕ) → 1 ≤ c → c ≤ columns_of s → row < rows_of s → symbols_of none (rows_of s) (part' ++ drop (needed_of s) cells) c row ≡ symbols_of none (rows_of s) part' c row
       front' c row one last low = get_or_append_left part' (drop (needed_of s) cells) none (place_of (rows_of s) c row) (place_lt c row (columns_of s) (rows_of s) (length part') one last low (omega (arith, part_long)))
@@ -96,8 +96,8 @@ module _ {X : Type 0} (none : X) (plus : X → X → X) (s : Shape) where
         record {
           same_data = λ c row one last low. front' c row one (omega arith) low ∙ E.same_data c row one last low ∙ front c row one (omega arith) low;
           parity = λ j row one last low. front' (s.k + j) row (omega arith) (omega arith) low ∙ E.parity j row one last low ∙ parity_same none plus s (symbols_of none (rows_of s) part) (symbols_of none (rows_of s) cells) (λ c row one last low. front c row one (omega arith) low) j row low;
-          beyond = λ i past. get_or_append_right part' (drop (needed_of s) cells) (needed_of s) i none (same_length ∙ part_long) past ∙ get_or_drop (needed_of s) cells (i - needed_of s) none ∙ ap (λ j. get_or cells j none) (omega arith);
+          beyond = λ i past. get_or-append_right part' (drop (needed_of s) cells) (needed_of s) i none (same_length ∙ part_long) past ∙ get_or-drop (needed_of s) cells (i - needed_of s) none ∙ ap (λ j. get_or cells j none) (omega arith);
         },
         clean,
       )
-      go (Err e) (refused, kept, same) = (sym (room_same (length work)) ∙ refused, ap (λ (l : List X). l ++ drop (needed_of s) cells) (kept ∙ is) ∙ take_append_drop (needed_of s) cells, same)
+      go (Err e) (refused, kept, same) = (sym (room_same (length work)) ∙ refused, ap (λ (l : List X). l ++ drop (needed_of s) cells) (kept ∙ is) ∙ take-append-drop (needed_of s) cells, same)

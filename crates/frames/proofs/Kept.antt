@@ -1,6 +1,6 @@
 -- A write and a mark leave a well formed text well formed.
-use Rattle.std.proofs.Common.{◌≡◌, ℕ, zero, suc, ◌+◌, ◌*◌, ◌/◌, ◌%◌, ◌<◌, ◌≤◌, true, ◌⊎◌, List, [], ◌∷◌, ◌++◌, length, get_or, take, drop, set, sym, ap, ◌∙◌, subst, inl, inr, mul_le_mul_right, mod_lt, div_add_mod', div_mul_le_self, arith}
-use Rattle.std.proofs.lemmas.List.{drop_drop, drop_at}
+use Rattle.std.proofs.Common.{◌≡◌, ℕ, zero, suc, ◌+◌, ◌*◌, ◌/◌, ◌%◌, ◌<◌, ◌≤◌, true, ◌⊎◌, List, [], ◌∷◌, ◌++◌, length, get_or, take, drop, set, sym, ap, ◌∙◌, subst, inl, inr, mul-le-mul_right, mod-lt, div-add-mod', div-mul-le_self, arith}
+use Rattle.std.proofs.lemmas.List.{drop-drop, drop_at}
 use Rattle.std.proofs.lemmas.Bool.{cases_eq, cases_order}
 use Rattle.symbol.specs.Hex.{is_hex}
 use Rattle.symbol.proofs.Digits.{hex_long}
@@ -16,7 +16,7 @@ redigited w c r line ds h digits =
     let f = framed w c r line h in
     let m = get_or line 0 0 in
     let old = part line 10 (2 * w) in
-    let end : drop (10 + 2 * w) (frame m c r old) ≡ 10 ∷ [] = sym (drop_drop (2 * w) 10 (frame m c r old)) ∙ drop_at old (10 ∷ []) (2 * w) (hex_long (2 * w) old f.1) in
+    let end : drop (10 + 2 * w) (frame m c r old) ≡ 10 ∷ [] = sym (drop-drop (2 * w) 10 (frame m c r old)) ∙ drop_at old (10 ∷ []) (2 * w) (hex_long (2 * w) old f.1) in
     let line' : part line 0 10 ++ (ds ++ part line (10 + 2 * w) 1) ≡ frame m c r ds =
     ap (λ (l : List ℕ). part l 0 10 ++ (ds ++ part l (10 + 2 * w) 1)) f.2
     ∙ ap (λ (e : List ℕ). (m ∷ label c r) ++ (ds ++ take 1 e)) end in
@@ -55,13 +55,13 @@ module _ (columns rows w : ℕ) (text : List ℕ) (s : Sound columns rows w text
   -- a line lies in a column exactly if the column's first line does
   same_column : (k j : ℕ) → 1 ≤ rows → ((k * rows ≤ j) × (j < k * rows + rows) × (k * rows ≤ j / rows * rows) × (j / rows * rows < k * rows + rows)) ⊎ (((j < k * rows) ⊎ (k * rows + rows ≤ j)) × ((j / rows * rows < k * rows) ⊎ (k * rows + rows ≤ j / rows * rows)))
   same_column k j some =
-      let e = div_add_mod' j rows in
-      let rest = mod_lt j {m = rows} some in
+      let e = div-add-mod' j rows in
+      let rest = mod-lt j {m = rows} some in
       elim (cases_order (j / rows) k) [
         | inl same ↦ let p : j / rows * rows ≡ k * rows = ap (λ q. q * rows) same in inl (omega arith, omega arith, omega arith, omega arith)
         | inr less ↦ elim less [
-          | inl below ↦ let step : (j / rows + 1) * rows ≤ k * rows = mul_le_mul_right rows (omega arith) in inr (inl (omega arith), inl (omega arith))
-          | inr above ↦ let step : (k + 1) * rows ≤ j / rows * rows = mul_le_mul_right rows (omega arith) in inr (inr (omega arith), inr (omega arith))
+          | inl below ↦ let step : (j / rows + 1) * rows ≤ k * rows = mul-le-mul_right rows (omega arith) in inr (inl (omega arith), inl (omega arith))
+          | inr above ↦ let step : (k + 1) * rows ≤ j / rows * rows = mul-le-mul_right rows (omega arith) in inr (inr (omega arith), inr (omega arith))
         ]
       ]
 
@@ -69,8 +69,8 @@ module _ (columns rows w : ℕ) (text : List ℕ) (s : Sound columns rows w text
   marked_sound k mark some is = record {
     long = length_marked w text (k * rows) mark rows ∙ s.long;
     lines = λ j l.
-        let step : (j + 1) * stride w ≤ columns * rows * stride w = mul_le_mul_right (stride w) (omega arith) in
-        let first : j / rows * rows * stride w ≤ j * stride w = mul_le_mul_right (stride w) (div_mul_le_self j rows) in
+        let step : (j + 1) * stride w ≤ columns * rows * stride w = mul-le-mul_right (stride w) (omega arith) in
+        let first : j / rows * rows * stride w ≤ j * stride w = mul-le-mul_right (stride w) (div-mul-le_self j rows) in
         let long = s.long in
         record {
           frames = frames_marked (k * rows) mark rows j is l;

@@ -31,15 +31,15 @@ module _ {X : Type 0} (none : X) (w : ℕ) (symbol : List ℕ → X) (s : Shape)
 
   -- over one that it passes, by the numbers that a call worked out
   pub over_passed : (m n : ℕ) → m ≡ columns_of s → n ≡ rows_of s → text_refusal (columns_of s) (rows_of s) w x.now ≡ None → Over none w symbol s x.now x.ghost_name (frames_view none w symbol (made m n)) × (text_refusal (columns_of s) (rows_of s) w x.now ≡ None → WellFormed w (made m n))
-  over_passed m n m_is n_is h =
-      let whole : is_whole (stride w) m n (length x.now) ≡ true = ap₂ (λ m n. is_whole (stride w) m n (length x.now)) m_is n_is ∙ is_whole_from (stride w) (columns_of s) (rows_of s) (length x.now) (rows_some s) (sound (columns_of s) (rows_of s) w x.now h).long in (
+  over_passed m n m-is n-is h =
+      let whole : is_whole (stride w) m n (length x.now) ≡ true = ap₂ (λ m n. is_whole (stride w) m n (length x.now)) m-is n-is ∙ is_whole_from (stride w) (columns_of s) (rows_of s) (length x.now) (rows_some s) (sound (columns_of s) (rows_of s) w x.now h).long in (
         record {
-          columns = ap (λ (b : Bool). cond b m 0) whole ∙ m_is ∙ sym (ap (λ o. cond (is_some o) 0 (columns_of s)) h);
-          rows = ap (λ (b : Bool). cond b n 0) whole ∙ n_is ∙ sym (ap (λ o. cond (is_some o) 0 (rows_of s)) h);
-          at = λ c r inside. ap (λ n. symbols_in none n w symbol x.now c r) n_is;
-          lost = λ c column. ap (λ n. marks_in n w x.now c) n_is;
+          columns = ap (λ (b : Bool). cond b m 0) whole ∙ m-is ∙ sym (ap (λ o. cond (is_some o) 0 (columns_of s)) h);
+          rows = ap (λ (b : Bool). cond b n 0) whole ∙ n-is ∙ sym (ap (λ o. cond (is_some o) 0 (rows_of s)) h);
+          at = λ c r inside. ap (λ n. symbols_in none n w symbol x.now c r) n-is;
+          lost = λ c column. ap (λ n. marks_in n w x.now c) n-is;
           meter = refl;
           lender = refl;
         },
-        λ passes. ap₂ (λ m n. text_refusal m n w x.now) m_is n_is ∙ h,
+        λ passes. ap₂ (λ m n. text_refusal m n w x.now) m-is n-is ∙ h,
       )

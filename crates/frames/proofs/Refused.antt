@@ -1,6 +1,6 @@
 -- What the check of a line, and of the lines one after another, comes to.
-use Rattle.std.proofs.Common.{◌≡◌, ℕ, zero, suc, ◌+◌, ◌-◌, ◌*◌, ◌/◌, ◌%◌, ◌<◌, ◌≤◌, Bool, true, false, cond, not, eqb, List, length, get_or, take, drop, is_some, is_ok, Some, None, Ok, Err, Option, Result, sym, refl, ap, ◌∙◌, subst, ap₂, inl, inr, add_one, arith}
-use Rattle.std.proofs.lemmas.Bool.{ne_eqb, eq_eqb, cases_eq, false≢true, true≢false}
+use Rattle.std.proofs.Common.{◌≡◌, ℕ, zero, suc, ◌+◌, ◌-◌, ◌*◌, ◌/◌, ◌%◌, ◌<◌, ◌≤◌, Bool, true, false, cond, not, eqb, List, length, get_or, take, drop, is_some, is_ok, Some, None, Ok, Err, Option, Result, sym, refl, ap, ◌∙◌, subst, ap₂, inl, inr, add-one, arith}
+use Rattle.std.proofs.lemmas.Bool.{ne_eqb, eq-eqb, cases_eq, false≢true, true≢false}
 use Rattle.code.specs.declared.refusal.Refusal.{Refusal}
 use Rattle.code.specs.declared.refusal.Refusal.TheVariants.{TextLength, BadFrame, MarkDiffers}
 use Rattle.code.specs.Refusals.{refuse, or_else}
@@ -21,26 +21,26 @@ module _ (rows w : ℕ) (text : List ℕ) (i : ℕ) where
   pub told : (frame other : Bool) → frame ≡ is_frame w (i / rows + 1) (i % rows) (line_at w text i) → other ≡ differs rows w text i → line_refusal rows w text i ≡ refuse (not frame) (BadFrame (i + 1)) (refuse other (MarkDiffers (i + 1)) None)
   told frame other p q = ap₂ (λ (b d : Bool). refuse (not b) (BadFrame (i + 1)) (refuse d (MarkDiffers (i + 1)) None)) (sym p) (sym q)
 
-  module _ (at first s : ℕ) (at_is : at ≡ i * s) (s_is : s ≡ stride w) (frame : Bool) (framed : frame ≡ is_frame w (i / rows + 1) (i % rows) (take (at + s - at) (drop at text))) where
+  module _ (at first s : ℕ) (at-is : at ≡ i * s) (s-is : s ≡ stride w) (frame : Bool) (framed : frame ≡ is_frame w (i / rows + 1) (i % rows) (take (at + s - at) (drop at text))) where
     framed_at : frame ≡ is_frame w (i / rows + 1) (i % rows) (line_at w text i)
-    framed_at = framed ∙ ap (is_frame w (i / rows + 1) (i % rows)) (cut at s at_is s_is)
+    framed_at = framed ∙ ap (is_frame w (i / rows + 1) (i % rows)) (cut at s at-is s-is)
 
     pub no_frame : frame ≡ false → line_refusal rows w text i ≡ Some (BadFrame (i + 1))
     no_frame h = told false _ (sym h ∙ framed_at) refl
 
     marks : first ≡ i / rows * rows * s → eqb (get_or text at 0) (get_or text first 0) ≡ eqb (mark_at w text i) (mark_at w text (i / rows * rows))
-    marks e = ap₂ (λ a b. eqb (get_or text a 0) (get_or text b 0)) (at_is ∙ ap (λ k. i * k) s_is) (e ∙ ap (λ k. i / rows * rows * k) s_is)
+    marks e = ap₂ (λ a b. eqb (get_or text a 0) (get_or text b 0)) (at-is ∙ ap (λ k. i * k) s-is) (e ∙ ap (λ k. i / rows * rows * k) s-is)
 
     pub other_mark : frame ≡ true → first ≡ i / rows * rows * s → (get_or text at 0 ≡ get_or text first 0 → ⊥) → line_refusal rows w text i ≡ Some (MarkDiffers (i + 1))
     other_mark h e ne = told true true (sym h ∙ framed_at) (ap not (sym (ne_eqb _ _ ne) ∙ marks e))
 
     pub passed : frame ≡ true → first ≡ i / rows * rows * s → get_or text at 0 ≡ get_or text first 0 → line_refusal rows w text i ≡ None
-    passed h e same = told true false (sym h ∙ framed_at) (ap not (sym (eq_eqb _ _ same) ∙ marks e))
+    passed h e same = told true false (sym h ∙ framed_at) (ap not (sym (eq-eqb _ _ same) ∙ marks e))
 
 module _ (rows w : ℕ) (text : List ℕ) where
   -- a line passes
   pub lines_more : (i : ℕ) → lines_refusal rows w text i ≡ None → line_refusal rows w text i ≡ None → lines_refusal rows w text (i + 1) ≡ None
-  lines_more i p q = rw (add_one i) (ap₂ or_else p q)
+  lines_more i p q = rw (add-one i) (ap₂ or_else p q)
 
   -- a line is refused, and whatever comes after it the refusal stays
   pub lines_stop : (i n : ℕ) (e : Refusal) → i < n → lines_refusal rows w text i ≡ None → line_refusal rows w text i ≡ Some e → lines_refusal rows w text n ≡ Some e
@@ -52,7 +52,7 @@ module _ (rows w : ℕ) (text : List ℕ) where
 
 -- a text of the right length is refused for a line
 pub right_length : (columns rows w : ℕ) (text : List ℕ) → length text ≡ columns * rows * stride w → text_refusal columns rows w text ≡ lines_refusal rows w text (columns * rows)
-right_length columns rows w text h = ap (λ (b : Bool). refuse (not b) (TextLength (columns * rows * stride w)) (lines_refusal rows w text (columns * rows))) (eq_eqb _ _ h)
+right_length columns rows w text h = ap (λ (b : Bool). refuse (not b) (TextLength (columns * rows * stride w)) (lines_refusal rows w text (columns * rows))) (eq-eqb _ _ h)
 
 pub wrong_length : (columns rows w : ℕ) (text : List ℕ) → (length text ≡ columns * rows * stride w → ⊥) → text_refusal columns rows w text ≡ Some (TextLength (columns * rows * stride w))
 wrong_length columns rows w text h = ap (λ (b : Bool). refuse (not b) (TextLength (columns * rows * stride w)) (lines_refusal rows w text (columns * rows))) (ne_eqb _ _ h)
@@ -62,15 +62,15 @@ some_if true x = refl
 some_if false x = refl
 
 -- the same with the numbers that a call worked out
-module _ (columns rows w m n s : ℕ) (text : List ℕ) (m_is : m ≡ columns) (n_is : n ≡ rows) (s_is : s ≡ stride w) where
+module _ (columns rows w m n s : ℕ) (text : List ℕ) (m-is : m ≡ columns) (n-is : n ≡ rows) (s-is : s ≡ stride w) where
   size : m * n * s ≡ columns * rows * stride w
-  size = ap₂ ◌*◌ (ap₂ ◌*◌ m_is n_is) s_is
+  size = ap₂ ◌*◌ (ap₂ ◌*◌ m-is n-is) s-is
 
   pub wrong_told : (length text ≡ m * n * s → ⊥) → text_refusal columns rows w text ≡ Some (TextLength (m * n * s))
   wrong_told h = wrong_length columns rows w text (λ e. h (e ∙ sym size)) ∙ ap (λ k. Some (TextLength k)) (sym size)
 
   pub right_told : {U : Type 0} → length text ≡ m * n * s → (r : Result U Refusal) → Told (lines_refusal n w text (m * n)) r → Told (text_refusal columns rows w text) r
-  right_told h r t = subst (λ (o : Option Refusal). Told o r) (ap₂ (λ c k. lines_refusal k w text (c * k)) m_is n_is ∙ sym (right_length columns rows w text (h ∙ size))) t
+  right_told h r t = subst (λ (o : Option Refusal). Told o r) (ap₂ (λ c k. lines_refusal k w text (c * k)) m-is n-is ∙ sym (right_length columns rows w text (h ∙ size))) t
 
 -- a call that answers Ok found nothing to refuse
 pub told_ok : {U : Type 0} (refusal : Option Refusal) (r : Result U Refusal) → Told refusal r → is_ok r ≡ true → refusal ≡ None

@@ -2,8 +2,8 @@
 use Rattle.std.proofs.Common.{◌≡◌, ℕ, ◌+◌, ◌-◌, ◌*◌, Bool, true, false, ◌&&◌, eqb, List, [], ◌∷◌, ◌++◌, length, get_or, take, drop, sym, refl, ap, ◌∙◌, ap₂, arith}
 use Rattle.std.specs.Str.{bytes_eq}
 use Rattle.std.proofs.lemmas.List.{take_all, take_at, drop_at, append_cancel_left}
-use Rattle.std.proofs.lemmas.Slice.Eq.{bytes_eq_Decides}
-use Rattle.std.proofs.lemmas.Bool.{and_from, and_parts, eq_eqb, eqb_true}
+use Rattle.std.proofs.lemmas.Slice.Eq.{bytes_eq-Decides}
+use Rattle.std.proofs.lemmas.Bool.{and_from, and_parts, eq-eqb, eqb-true}
 use Rattle.symbol.specs.Hex.{is_hex}
 use Rattle.frames.specs.Lines.{stride, part}
 use Rattle.frames.specs.Format.{label}
@@ -33,16 +33,16 @@ same_lines : (m : ℕ) (l k ds : List ℕ) (e d : ℕ) → length l ≡ 9 → le
 same_lines m l k ds e d p q =
     same_test _ _
     (λ h.
-    let t : l ++ (ds ++ (e ∷ [])) ≡ k ++ (ds ++ (d ∷ [])) = let line = (bytes_eq_Decides (m ∷ (l ++ (ds ++ (e ∷ [])))) (m ∷ (k ++ (ds ++ (d ∷ []))))).0 h in cc in
+    let t : l ++ (ds ++ (e ∷ [])) ≡ k ++ (ds ++ (d ∷ [])) = let line = (bytes_eq-Decides (m ∷ (l ++ (ds ++ (e ∷ [])))) (m ∷ (k ++ (ds ++ (d ∷ []))))).0 h in cc in
     let labels : l ≡ k = sym (take_at l _ 9 p) ∙ ap (take 9) t ∙ take_at k _ 9 q in
     let rest : ds ++ (e ∷ []) ≡ ds ++ (d ∷ []) = sym (drop_at l _ 9 p) ∙ ap (drop 9) t ∙ drop_at k _ 9 q in
     let last : e ∷ [] ≡ d ∷ [] = append_cancel_left ds _ _ rest in
-    and_from _ _ ((bytes_eq_Decides l k).1 labels) (eq_eqb e d (cc)))
+    and_from _ _ ((bytes_eq-Decides l k).1 labels) (eq-eqb e d (cc)))
     (λ h.
     let both = and_parts (bytes_eq l k) (eqb e d) h in
-    let labels = (bytes_eq_Decides l k).0 both.0 in
-    let ends = eqb_true e d both.1 in
-    (bytes_eq_Decides (m ∷ (l ++ (ds ++ (e ∷ [])))) (m ∷ (k ++ (ds ++ (d ∷ []))))).1 (cc))
+    let labels = (bytes_eq-Decides l k).0 both.0 in
+    let ends = eqb-true e d both.1 in
+    (bytes_eq-Decides (m ∷ (l ++ (ds ++ (e ∷ [])))) (m ∷ (k ++ (ds ++ (d ∷ []))))).1 (cc))
 
 -- the test of a line by its parts
 pub by_parts : (w c r : ℕ) (line : List ℕ) → length line ≡ stride w →
@@ -59,8 +59,8 @@ pub tested : (w c r : ℕ) (line : List ℕ) (end : ℕ) → length line ≡ str
     (m d l e : Bool) → m ≡ is_mark (get_or line 0 0) → d ≡ is_hex (2 * w) (take (end - 10) (drop 10 line)) → l ≡ bytes_eq (part line 1 9) (label c r) → e ≡ eqb (get_or line end 0) 10 →
     (m && (d && (l && e))) ≡ is_frame w c r line
 tested w c r line end h n m d l e mark digits same last =
-    let digits_end : end - 10 ≡ 2 * w = omega arith in
-    let line_end : end ≡ 10 + 2 * w = omega arith in
-    let dd : d ≡ is_hex (2 * w) (part line 10 (2 * w)) = digits ∙ ap (λ k. is_hex (2 * w) (part line 10 k)) digits_end in
-    let ee : e ≡ eqb (get_or line (10 + 2 * w) 0) 10 = last ∙ ap (λ k. eqb (get_or line k 0) 10) line_end in
+    let digits-end : end - 10 ≡ 2 * w = omega arith in
+    let line-end : end ≡ 10 + 2 * w = omega arith in
+    let dd : d ≡ is_hex (2 * w) (part line 10 (2 * w)) = digits ∙ ap (λ k. is_hex (2 * w) (part line 10 k)) digits-end in
+    let ee : e ≡ eqb (get_or line (10 + 2 * w) 0) 10 = last ∙ ap (λ k. eqb (get_or line k 0) 10) line-end in
     ap₂ ◌&&◌ mark (ap₂ ◌&&◌ dd (ap₂ ◌&&◌ same ee)) ∙ sym (by_parts w c r line h)

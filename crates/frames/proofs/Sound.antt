@@ -2,8 +2,8 @@
 use Rattle.std.proofs.Common.{◌≡◌, ℕ, zero, suc, ◌+◌, ◌-◌, ◌*◌, ◌/◌, ◌%◌, ◌<◌, ◌≤◌, Bool, true, false, not, ◌&&◌, eqb, List, [], ◌∷◌, length, get_or, Some, None, Option, sym, refl, ap, ◌∙◌, ap₂, inl, inr, arith}
 use Rattle.std.specs.Str.{bytes_eq}
 use Rattle.std.proofs.lemmas.List.{take_at}
-use Rattle.std.proofs.lemmas.Slice.Eq.{bytes_eq_Decides}
-use Rattle.std.proofs.lemmas.Bool.{and_parts, and_from, eqb_true, eq_eqb, cases_eq, not_false}
+use Rattle.std.proofs.lemmas.Slice.Eq.{bytes_eq-Decides}
+use Rattle.std.proofs.lemmas.Bool.{and_parts, and_from, eqb-true, eq-eqb, cases_eq, not-false}
 use Rattle.symbol.specs.Hex.{is_hex}
 use Rattle.symbol.proofs.Digits.{hex_long}
 use Rattle.code.specs.declared.refusal.Refusal.{Refusal}
@@ -32,7 +32,7 @@ pub framed : (w c r : ℕ) (line : List ℕ) → is_frame w c r line ≡ true �
 framed w c r line h =
     let p = and_parts (is_mark (get_or line 0 0)) _ h in
     let q = and_parts (is_hex (2 * w) (part line 10 (2 * w))) _ p.1 in
-    (p.0, q.0, (bytes_eq_Decides line (frame (get_or line 0 0) c r (part line 10 (2 * w)))).0 q.1)
+    (p.0, q.0, (bytes_eq-Decides line (frame (get_or line 0 0) c r (part line 10 (2 * w)))).0 q.1)
 
 pub frame_digits : (w m c r : ℕ) (ds : List ℕ) → length ds ≡ 2 * w → part (frame m c r ds) 10 (2 * w) ≡ ds
 frame_digits w m c r ds h = take_at ds (10 ∷ []) (2 * w) h
@@ -41,7 +41,7 @@ pub frames_so : (w m c r : ℕ) (ds : List ℕ) → is_mark m ≡ true → is_he
 frames_so w m c r ds mark digits =
     let e = frame_digits w m c r ds (hex_long (2 * w) ds digits) in
     ap (λ (d : List ℕ). is_mark m && (is_hex (2 * w) d && bytes_eq (frame m c r ds) (frame m c r d))) e
-    ∙ and_from _ _ mark (and_from _ _ digits ((bytes_eq_Decides (frame m c r ds) (frame m c r ds)).1 refl))
+    ∙ and_from _ _ mark (and_from _ _ digits ((bytes_eq-Decides (frame m c r ds) (frame m c r ds)).1 refl))
 
 module _ (rows w : ℕ) (text : List ℕ) where
   -- the first n lines are frames of their columns and rows, and have their columns' marks
@@ -53,10 +53,10 @@ module _ (rows w : ℕ) (text : List ℕ) where
   line_passes i h =
       let p = let_through (not (is_frame w (i / rows + 1) (i % rows) (line_at w text i))) _ _ h in
       let q = let_through (differs rows w text i) _ None p.1 in
-      record { frames = not_false _ p.0; agrees = eqb_true _ _ (not_false _ q.0) }
+      record { frames = not-false _ p.0; agrees = eqb-true _ _ (not-false _ q.0) }
 
   passes_line : (i : ℕ) → Passing i → line_refusal rows w text i ≡ None
-  passes_line i p = told rows w text i true false (sym p.frames) (ap not (sym (eq_eqb _ _ p.agrees)))
+  passes_line i p = told rows w text i true false (sym p.frames) (ap not (sym (eq-eqb _ _ p.agrees)))
 
   pub lines_pass : (n : ℕ) → lines_refusal rows w text n ≡ None → (i : ℕ) → i < n → Passing i
   lines_pass zero h i l = absurd (omega arith)
@@ -85,13 +85,13 @@ pub record Sound (columns rows w : ℕ) (text : List ℕ) : Type 0 where
 pub sound : (columns rows w : ℕ) (text : List ℕ) → text_refusal columns rows w text ≡ None → Sound columns rows w text
 sound columns rows w text h =
     let p = let_through (not (eqb (length text) (columns * rows * stride w))) _ _ h in
-    record { long = eqb_true _ _ (not_false _ p.0); lines = lines_pass rows w text (columns * rows) p.1 }
+    record { long = eqb-true _ _ (not-false _ p.0); lines = lines_pass rows w text (columns * rows) p.1 }
 
 pub unrefused : (columns rows w : ℕ) (text : List ℕ) → Sound columns rows w text → text_refusal columns rows w text ≡ None
 unrefused columns rows w text s = right_length columns rows w text s.long ∙ pass_lines rows w text (columns * rows) s.lines
 
 -- the lines of a column lie in a text that passes, by the numbers that a call worked out
 pub column_in : (columns rows w : ℕ) (text : List ℕ) (c n s : ℕ) → text_refusal columns rows w text ≡ None → n ≡ rows → s ≡ stride w → 1 ≤ c → c ≤ columns → (c - 1) * (n * s) + n * s ≤ length text
-column_in columns rows w text c n s h n_is s_is one last =
-    let size : length text ≡ columns * n * s = (sound columns rows w text h).long ∙ sym (ap₂ (λ n s. columns * n * s) n_is s_is) in
+column_in columns rows w text c n s h n-is s-is one last =
+    let size : length text ≡ columns * n * s = (sound columns rows w text h).long ∙ sym (ap₂ (λ n s. columns * n * s) n-is s-is) in
     column_fits c columns n s (length text) one last size

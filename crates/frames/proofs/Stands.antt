@@ -1,6 +1,6 @@
 -- What a text stands for: there and back, for every kind of symbol.
-use Rattle.std.proofs.Common.{◌≡◌, ℕ, ◌+◌, ◌-◌, ◌*◌, ◌/◌, ◌%◌, ◌<◌, ◌≤◌, Bool, true, false, cond, not, eqb, List, [], ◌∷◌, length, get_or, Some, None, unwrap_or, sym, refl, ap, ◌∙◌, subst, ap₂, mod_lt, div_mul_le_self, mul_div_cancel, arith}
-use Rattle.std.proofs.lemmas.List.{length_append}
+use Rattle.std.proofs.Common.{◌≡◌, ℕ, ◌+◌, ◌-◌, ◌*◌, ◌/◌, ◌%◌, ◌<◌, ◌≤◌, Bool, true, false, cond, not, eqb, List, [], ◌∷◌, length, get_or, Some, None, unwrap_or, sym, refl, ap, ◌∙◌, subst, ap₂, mod-lt, div-mul-le_self, mul-div_cancel, arith}
+use Rattle.std.proofs.lemmas.List.{length-append}
 use Rattle.std.proofs.lemmas.Bool.Decides.{nat_tests}
 use Rattle.symbol.specs.Hex.{hex, unhex, is_hex, Octets}
 use Rattle.symbol.specs.Kinds.{from_digits}
@@ -43,7 +43,7 @@ module _ {X : Type 0} (none : X) (w : ℕ) (bytes : X → List ℕ) (symbol : Li
   digits_long x = length_hex (bytes x) ∙ ap (λ n. 2 * n) (wide x)
 
   frame_long : (rows : ℕ) (lost : ℕ → Bool) (at : ℕ → ℕ → X) (i : ℕ) → length (frame_of rows bytes lost at i) ≡ stride w
-  frame_long rows lost at i = let x = at (i / rows + 1) (i % rows) in omega (arith, length_append (hex (bytes x)) (10 ∷ []), digits_long x)
+  frame_long rows lost at i = let x = at (i / rows + 1) (i % rows) in omega (arith, length-append (hex (bytes x)) (10 ∷ []), digits_long x)
 
   module _ (columns rows : ℕ) (text : List ℕ) where
     -- a line that passes is the frame of what it stands for
@@ -91,11 +91,11 @@ module _ {X : Type 0} (none : X) (w : ℕ) (bytes : X → List ℕ) (symbol : Li
       render_sound some = record {
         long = ap length h.1 ∙ length_lines (stride w) (frame_of rows bytes lost at) (columns * rows) (λ j k. frame_long rows lost at j);
         lines = λ i l.
-            let c_low = column_low i columns rows some l in
-            let first_low : i / rows * rows < columns * rows = omega (arith, div_mul_le_self i rows) in
-            let same : i / rows * rows / rows ≡ i / rows = mul_div_cancel (i / rows) some in
+            let c-low = column_low i columns rows some l in
+            let first_low : i / rows * rows < columns * rows = omega (arith, div-mul-le_self i rows) in
+            let same : i / rows * rows / rows ≡ i / rows = mul-div_cancel (i / rows) some in
             record {
-              frames = ap (is_frame w (i / rows + 1) (i % rows)) (line_there i l) ∙ frames_so w (mark_of (lost (i / rows + 1))) (i / rows + 1) (i % rows) _ (mark_is (lost (i / rows + 1))) (digits_is (at (i / rows + 1) (i % rows)) (h.0 (i / rows + 1) (i % rows) (omega arith) (omega arith) (mod_lt i some)));
+              frames = ap (is_frame w (i / rows + 1) (i % rows)) (line_there i l) ∙ frames_so w (mark_of (lost (i / rows + 1))) (i / rows + 1) (i % rows) _ (mark_is (lost (i / rows + 1))) (digits_is (at (i / rows + 1) (i % rows)) (h.0 (i / rows + 1) (i % rows) (omega arith) (omega arith) (mod-lt i some)));
               agrees = mark_is_there i l ∙ ap (λ k. mark_of (lost (k + 1))) (sym same) ∙ sym (mark_is_there (i / rows * rows) first_low);
             };
       }

@@ -1,8 +1,8 @@
 -- What a write to a text comes to: parts of it, lines and marks.
-use Rattle.std.proofs.Common.{◌≡◌, ℕ, zero, suc, ◌+◌, ◌*◌, ◌<◌, ◌≤◌, Bool, true, false, ◌≢◌, ◌⊎◌, List, [], ◌∷◌, ◌++◌, length, get_or, take, drop, set, sym, refl, ap, ◌∙◌, ap₂, inl, inr, mul_le_mul_right, arith}
+use Rattle.std.proofs.Common.{◌≡◌, ℕ, zero, suc, ◌+◌, ◌*◌, ◌<◌, ◌≤◌, Bool, true, false, ◌≢◌, ◌⊎◌, List, [], ◌∷◌, ◌++◌, length, get_or, take, drop, set, sym, refl, ap, ◌∙◌, ap₂, inl, inr, mul-le-mul_right, arith}
 use borrow.Rule.Slice.PartMut.{put_mid}
-use Rattle.std.proofs.lemmas.List.{drop_drop, drop_at, take_at, length_append, length_drop, length_take_le, drop_take, take_set_le, drop_set_lt, drop_set_add, length_set, get_or_set_same, get_or_set_other}
-use Rattle.std.proofs.lemmas.Slice.{take_put_mid_below, drop_put_mid}
+use Rattle.std.proofs.lemmas.List.{drop-drop, drop_at, take_at, length-append, length-drop, length-take-le, drop-take, take-set-le, drop-set-lt, drop-set-add, length-set, get_or-set_same, get_or-set_other}
+use Rattle.std.proofs.lemmas.Slice.{take-put_mid_below, drop-put_mid}
 use Rattle.std.proofs.lemmas.Bool.{cases_order, cases_eq}
 use Rattle.symbol.specs.Kinds.{Wrote}
 use Rattle.frames.specs.Lines.{stride, part, line_at, mark_at, digits_at, over, marked}
@@ -16,7 +16,7 @@ wrote bytes before after false h e = absurd (h.0 e)
 pub mid_over : (a k : ℕ) (xs ys zs : List ℕ) → ys ≡ zs → length ys ≡ k → put_mid a k xs ys ≡ over xs a zs
 mid_over a k xs ys zs e h =
     let n : k ≡ length zs = sym h ∙ ap length e in
-    let d : drop k (drop a xs) ≡ drop (a + k) xs = drop_drop k a xs in
+    let d : drop k (drop a xs) ≡ drop (a + k) xs = drop-drop k a xs in
     cc
 
 module _ (xs : List ℕ) (a : ℕ) (ys : List ℕ) where
@@ -24,18 +24,18 @@ module _ (xs : List ℕ) (a : ℕ) (ys : List ℕ) where
   as_mid = sym (mid_over a (length ys) xs ys ys refl refl)
 
   pub length_over : a + length ys ≤ length xs → length (over xs a ys) ≡ length xs
-  length_over h = length_append (take a xs) (ys ++ drop (a + length ys) xs) ∙ omega (arith, length_append ys (drop (a + length ys) xs), length_take_le a xs (omega arith), length_drop (a + length ys) xs)
+  length_over h = length-append (take a xs) (ys ++ drop (a + length ys) xs) ∙ omega (arith, length-append ys (drop (a + length ys) xs), length-take-le a xs (omega arith), length-drop (a + length ys) xs)
 
   -- what was written is there
   pub part_over : (n : ℕ) → a ≤ length xs → length ys ≡ n → part (over xs a ys) a n ≡ ys
-  part_over n h e = ap (take n) (drop_at (take a xs) (ys ++ drop (a + length ys) xs) a (length_take_le a xs h)) ∙ take_at ys (drop (a + length ys) xs) n e
+  part_over n h e = ap (take n) (drop_at (take a xs) (ys ++ drop (a + length ys) xs) a (length-take-le a xs h)) ∙ take_at ys (drop (a + length ys) xs) n e
 
   -- what lies below or above is as before
   pub part_off : (p n : ℕ) → a ≤ length xs → (p + n ≤ a) ⊎ (a + length ys ≤ p) → part (over xs a ys) p n ≡ part xs p n
   part_off p n h (inl below) =
-      let same : take (p + n) (over xs a ys) ≡ take (p + n) xs = ap (take (p + n)) as_mid ∙ take_put_mid_below a (length ys) xs ys (p + n) below h in
-      sym (drop_take p n (over xs a ys)) ∙ ap (drop p) same ∙ drop_take p n xs
-  part_off p n h (inr above) = ap (take n) (ap (drop p) as_mid ∙ drop_put_mid a (length ys) xs ys p above h refl)
+      let same : take (p + n) (over xs a ys) ≡ take (p + n) xs = ap (take (p + n)) as_mid ∙ take-put_mid_below a (length ys) xs ys (p + n) below h in
+      sym (drop-take p n (over xs a ys)) ∙ ap (drop p) same ∙ drop-take p n xs
+  part_off p n h (inr above) = ap (take n) (ap (drop p) as_mid ∙ drop-put_mid a (length ys) xs ys p above h refl)
 
 -- a byte is a part of one
 byte_part : (xs ys : List ℕ) (k : ℕ) → part xs k 1 ≡ part ys k 1 → get_or xs k 0 ≡ get_or ys k 0
@@ -45,16 +45,16 @@ byte_part xs ys k e = sym (at xs) ∙ ap (λ (zs : List ℕ). get_or zs 0 0) e �
 
 -- a byte set outside a part, or in it
 pub part_set : (xs : List ℕ) (k b p n : ℕ) → (k < p) ⊎ (p + n ≤ k) → part (set xs k b) p n ≡ part xs p n
-part_set xs k b p n (inl before) = ap (take n) (drop_set_lt p xs k b before)
-part_set xs k b p n (inr after) = sym (drop_take p n (set xs k b)) ∙ ap (drop p) (take_set_le (p + n) xs k b after) ∙ drop_take p n xs
+part_set xs k b p n (inl before) = ap (take n) (drop-set-lt p xs k b before)
+part_set xs k b p n (inr after) = sym (drop-take p n (set xs k b)) ∙ ap (drop p) (take-set-le (p + n) xs k b after) ∙ drop-take p n xs
 
 -- two lines are one, or one ends before the other begins
 pub apart : (s i j : ℕ) → (i ≡ j) ⊎ ((i * s + s ≤ j * s) ⊎ (j * s + s ≤ i * s))
 apart s i j = elim (cases_order i j) [
   | inl same ↦ inl same
   | inr less ↦ inr (elim less [
-    | inl up ↦ inl (let step : (i + 1) * s ≤ j * s = mul_le_mul_right s (omega arith) in omega arith)
-    | inr down ↦ inr (let step : (j + 1) * s ≤ i * s = mul_le_mul_right s (omega arith) in omega arith)
+    | inl up ↦ inl (let step : (i + 1) * s ≤ j * s = mul-le-mul_right s (omega arith) in omega arith)
+    | inr down ↦ inr (let step : (j + 1) * s ≤ i * s = mul-le-mul_right s (omega arith) in omega arith)
   ])
 ]
 
@@ -117,7 +117,7 @@ module _ (w : ℕ) (text : List ℕ) (k mark : ℕ) where
       let z : a ≡ a + 0 = omega arith in
       let s : stride w ≡ suc (10 + 2 * w) = omega arith in
       ap₂ (λ n p. take n (drop a (set text p mark))) s z
-      ∙ ap (take (suc (10 + 2 * w))) (drop_set_add a text 0 mark)
+      ∙ ap (take (suc (10 + 2 * w))) (drop-set-add a text 0 mark)
       ∙ set_first (10 + 2 * w) (drop a text) mark
       ∙ ap (λ n. set (take n (drop a text)) 0 mark) (sym s)
 
@@ -133,13 +133,13 @@ module _ (w : ℕ) (text : List ℕ) (k mark : ℕ) where
         | inl same ↦ ne (sym same)
         | inr less ↦ elim less [ inl up ↦ omega arith | inr down ↦ omega arith ]
       ] in
-      get_or_set_other text (k * stride w) (j * stride w) mark 0 off
+      get_or-set_other text (k * stride w) (j * stride w) mark 0 off
 
 -- n lines are marked, from line i on
 module _ (w : ℕ) (text : List ℕ) (i mark : ℕ) where
   pub length_marked : (n : ℕ) → length (marked w text i n mark) ≡ length text
   length_marked zero = refl
-  length_marked (suc n) = length_set (marked w text i n mark) ((i + n) * stride w) mark ∙ length_marked n
+  length_marked (suc n) = length-set (marked w text i n mark) ((i + n) * stride w) mark ∙ length_marked n
 
   pub digits_marked : (n j : ℕ) → digits_at w (marked w text i n mark) j ≡ digits_at w text j
   digits_marked zero j = refl
@@ -155,6 +155,6 @@ module _ (w : ℕ) (text : List ℕ) (i mark : ℕ) where
   pub mark_in : (n j : ℕ) → i ≤ j → j < i + n → j * stride w < length text → mark_at w (marked w text i n mark) j ≡ mark
   mark_in zero j low high within = absurd (omega arith)
   mark_in (suc n) j low high within = elim (cases_eq j (i + n)) [
-    | inl same ↦ rw same (get_or_set_same (marked w text i n mark) ((i + n) * stride w) mark 0 (rw (length_marked n) (rw same at within)))
+    | inl same ↦ rw same (get_or-set_same (marked w text i n mark) ((i + n) * stride w) mark 0 (rw (length_marked n) (rw same at within)))
     | inr other ↦ mark_unmarked w (marked w text i n mark) (i + n) mark j other ∙ mark_in n j low (omega arith) within
   ]

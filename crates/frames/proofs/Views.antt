@@ -1,5 +1,5 @@
 -- What a write and a mark come to in the view of a frame store.
-use Rattle.std.proofs.Common.{◌≡◌, ℕ, suc, ◌+◌, ◌-◌, ◌*◌, ◌<◌, ◌≤◌, Bool, true, false, cond, not, eqb, ◌⊎◌, List, length, is_some, Some, None, Ok, Err, Option, Result, unwrap_or, refl, ap, ◌∙◌, inl, inr, mul_le_mul_right, arith}
+use Rattle.std.proofs.Common.{◌≡◌, ℕ, suc, ◌+◌, ◌-◌, ◌*◌, ◌<◌, ◌≤◌, Bool, true, false, cond, not, eqb, ◌⊎◌, List, length, is_some, Some, None, Ok, Err, Option, Result, unwrap_or, refl, ap, ◌∙◌, inl, inr, mul-le-mul_right, arith}
 use borrow.Rule.Slice.Mut.{set_vals}
 use Rattle.std.proofs.lemmas.Bool.{cases_order, false≢true}
 use Rattle.symbol.specs.Hex.{hex, Octets}
@@ -39,7 +39,7 @@ module _ {X : Type 0} (none : X) (w : ℕ) (bytes : X → List ℕ) (symbol : Li
   after = record { columns = t.columns; rows = t.rows; text = set_vals values t.text; meter = t.meter; kind = t.kind }
 
   module _ (c r : ℕ) (y : X) (whole : counts w t ≡ true) (one : 1 ≤ c) (last : c ≤ t.columns) (within : r < t.rows) (real : Octets (bytes y))
-      (text_is : values ≡ over t.text.now (place_of t.rows c r * stride w + 10) (hex (bytes y))) where
+      (text-is : values ≡ over t.text.now (place_of t.rows c r * stride w + 10) (hex (bytes y))) where
     fits : place_of t.rows c r * stride w + stride w ≤ length t.text.now
     fits = (place_fits c r t.columns t.rows (stride w) (length t.text.now) (omega arith) one last within (whole_size (stride w) t.columns t.rows (length t.text.now) whole)).0
 
@@ -47,19 +47,19 @@ module _ {X : Type 0} (none : X) (w : ℕ) (bytes : X → List ℕ) (symbol : Li
     long = digits_long none w bytes symbol wide back there y
 
     size : length values ≡ length t.text.now
-    size = let f = fits in let l = long in ap length text_is ∙ length_over t.text.now (place_of t.rows c r * stride w + 10) (hex (bytes y)) (omega arith)
+    size = let f = fits in let l = long in ap length text-is ∙ length_over t.text.now (place_of t.rows c r * stride w + 10) (hex (bytes y)) (omega arith)
 
     written : Written (frames_view none w symbol t) c r y (frames_view none w symbol after)
     written = record {
       columns = ap (λ n. cond (is_whole (stride w) t.columns t.rows n) t.columns 0) size;
       rows = ap (λ n. cond (is_whole (stride w) t.columns t.rows n) t.rows 0) size;
-      lost = λ d col. ap (λ (b : ℕ). not (eqb b 80)) (ap (λ (u : List ℕ). mark_at w u (place_of t.rows d 0)) text_is ∙ mark_over w t.text.now (place_of t.rows c r) (hex (bytes y)) fits long (place_of t.rows d 0));
+      lost = λ d col. ap (λ (b : ℕ). not (eqb b 80)) (ap (λ (u : List ℕ). mark_at w u (place_of t.rows d 0)) text-is ∙ mark_over w t.text.now (place_of t.rows c r) (hex (bytes y)) fits long (place_of t.rows d 0));
       meter = refl;
       lender = refl;
-      here = ap (λ (ds : List ℕ). unwrap_or (from_digits w symbol ds) none) (ap (λ (u : List ℕ). digits_at w u (place_of t.rows c r)) text_is ∙ digits_here w t.text.now (place_of t.rows c r) (hex (bytes y)) fits long) ∙ digits_there none w bytes symbol wide back there y real;
+      here = ap (λ (ds : List ℕ). unwrap_or (from_digits w symbol ds) none) (ap (λ (u : List ℕ). digits_at w u (place_of t.rows c r)) text-is ∙ digits_here w t.text.now (place_of t.rows c r) (hex (bytes y)) fits long) ∙ digits_there none w bytes symbol wide back there y real;
       others = λ d s inside apart.
           let ne = place_apart d s c r t.rows inside.0 one (cond_low (counts w t) t.rows s inside.2) within apart in
-          ap (λ (ds : List ℕ). unwrap_or (from_digits w symbol ds) none) (ap (λ (u : List ℕ). digits_at w u (place_of t.rows d s)) text_is ∙ digits_other w t.text.now (place_of t.rows c r) (hex (bytes y)) fits long (place_of t.rows d s) ne);
+          ap (λ (ds : List ℕ). unwrap_or (from_digits w symbol ds) none) (ap (λ (u : List ℕ). digits_at w u (place_of t.rows d s)) text-is ∙ digits_other w t.text.now (place_of t.rows c r) (hex (bytes y)) fits long (place_of t.rows d s) ne);
     }
 
     written_inside : Inside (frames_view none w symbol t) c r
@@ -69,7 +69,7 @@ module _ {X : Type 0} (none : X) (w : ℕ) (bytes : X → List ℕ) (symbol : Li
     written_stays = record {
       columns = refl;
       rows = refl;
-      formed = λ h. ap (text_refusal t.columns t.rows w) text_is ∙ unrefused t.columns t.rows w (over t.text.now (place_of t.rows c r * stride w + 10) (hex (bytes y))) (written_sound t.columns t.rows w t.text.now (sound t.columns t.rows w t.text.now h) (place_of t.rows c r) (hex (bytes y)) fits (digits_is none w bytes symbol wide back there y real));
+      formed = λ h. ap (text_refusal t.columns t.rows w) text-is ∙ unrefused t.columns t.rows w (over t.text.now (place_of t.rows c r * stride w + 10) (hex (bytes y))) (written_sound t.columns t.rows w t.text.now (sound t.columns t.rows w t.text.now h) (place_of t.rows c r) (hex (bytes y)) fits (digits_is none w bytes symbol wide back there y real));
     }
 
     written_all : (Inside (frames_view none w symbol t) c r × Written (frames_view none w symbol t) c r y (frames_view none w symbol after)) × Stays w t after
@@ -80,13 +80,13 @@ module _ {X : Type 0} (none : X) (w : ℕ) (bytes : X → List ℕ) (symbol : Li
       (values ≡ over t.text.now (place_of t.rows c r * stride w + 10) (hex (bytes y)))
       × ((Inside (frames_view none w symbol t) c r × Written (frames_view none w symbol t) c r y (frames_view none w symbol after)) × Stays w t after)
   wrote_at c r a y p real put =
-      let text_is = put ∙ ap (λ (k : ℕ). over t.text.now (k + 10) (hex (bytes y))) p.4 in
-      (text_is, written_all c r y p.0 p.1 p.2 p.3 real text_is)
+      let text-is = put ∙ ap (λ (k : ℕ). over t.text.now (k + 10) (hex (bytes y))) p.4 in
+      (text-is, written_all c r y p.0 p.1 p.2 p.3 real text-is)
 
   module _ (c mark : ℕ) (whole : counts w t ≡ true) (one : 1 ≤ c) (last : c ≤ t.columns) (some : 0 < t.rows)
-      (text_is : values ≡ marked w t.text.now ((c - 1) * t.rows) t.rows mark) where
+      (text-is : values ≡ marked w t.text.now ((c - 1) * t.rows) t.rows mark) where
     marked_size : length values ≡ length t.text.now
-    marked_size = ap length text_is ∙ length_marked w t.text.now ((c - 1) * t.rows) mark t.rows
+    marked_size = ap length text-is ∙ length_marked w t.text.now ((c - 1) * t.rows) mark t.rows
 
     -- the column's first line
     first : place_of t.rows c 0 * stride w < length t.text.now
@@ -97,8 +97,8 @@ module _ {X : Type 0} (none : X) (w : ℕ) (bytes : X → List ℕ) (symbol : Li
     elsewhere d d1 ne = elim (cases_order d c) [
       | inl same ↦ absurd (ne same)
       | inr less ↦ elim less [
-        | inl up ↦ inl (let step : (d - 1 + 1) * t.rows ≤ (c - 1) * t.rows = mul_le_mul_right t.rows (omega arith) in omega arith)
-        | inr down ↦ inr (let step : (c - 1 + 1) * t.rows ≤ (d - 1) * t.rows = mul_le_mul_right t.rows (omega arith) in omega arith)
+        | inl up ↦ inl (let step : (d - 1 + 1) * t.rows ≤ (c - 1) * t.rows = mul-le-mul_right t.rows (omega arith) in omega arith)
+        | inr down ↦ inr (let step : (c - 1 + 1) * t.rows ≤ (d - 1) * t.rows = mul-le-mul_right t.rows (omega arith) in omega arith)
       ]
     ]
 
@@ -108,9 +108,9 @@ module _ {X : Type 0} (none : X) (w : ℕ) (bytes : X → List ℕ) (symbol : Li
       rows = ap (λ n. cond (is_whole (stride w) t.columns t.rows n) t.rows 0) marked_size;
       meter = refl;
       lender = refl;
-      here = ap (λ (b : ℕ). not (eqb b 80)) (ap (λ (u : List ℕ). mark_at w u (place_of t.rows c 0)) text_is ∙ mark_in w t.text.now ((c - 1) * t.rows) mark t.rows (place_of t.rows c 0) (omega arith) (omega arith) first);
-      marks = λ d col ne. ap (λ (b : ℕ). not (eqb b 80)) (ap (λ (u : List ℕ). mark_at w u (place_of t.rows d 0)) text_is ∙ mark_out w t.text.now ((c - 1) * t.rows) mark t.rows (place_of t.rows d 0) (elsewhere d col.0 ne));
-      symbols = λ d s inside. ap (λ (ds : List ℕ). unwrap_or (from_digits w symbol ds) none) (ap (λ (u : List ℕ). digits_at w u (place_of t.rows d s)) text_is ∙ digits_marked w t.text.now ((c - 1) * t.rows) mark t.rows (place_of t.rows d s));
+      here = ap (λ (b : ℕ). not (eqb b 80)) (ap (λ (u : List ℕ). mark_at w u (place_of t.rows c 0)) text-is ∙ mark_in w t.text.now ((c - 1) * t.rows) mark t.rows (place_of t.rows c 0) (omega arith) (omega arith) first);
+      marks = λ d col ne. ap (λ (b : ℕ). not (eqb b 80)) (ap (λ (u : List ℕ). mark_at w u (place_of t.rows d 0)) text-is ∙ mark_out w t.text.now ((c - 1) * t.rows) mark t.rows (place_of t.rows d 0) (elsewhere d col.0 ne));
+      symbols = λ d s inside. ap (λ (ds : List ℕ). unwrap_or (from_digits w symbol ds) none) (ap (λ (u : List ℕ). digits_at w u (place_of t.rows d s)) text-is ∙ digits_marked w t.text.now ((c - 1) * t.rows) mark t.rows (place_of t.rows d s));
     }
 
     remarked_column : Column (frames_view none w symbol t) c
@@ -120,7 +120,7 @@ module _ {X : Type 0} (none : X) (w : ℕ) (bytes : X → List ℕ) (symbol : Li
     remarked_stays is = record {
       columns = refl;
       rows = refl;
-      formed = λ h. ap (text_refusal t.columns t.rows w) text_is ∙ unrefused t.columns t.rows w (marked w t.text.now ((c - 1) * t.rows) t.rows mark) (marked_sound t.columns t.rows w t.text.now (sound t.columns t.rows w t.text.now h) (c - 1) mark some is);
+      formed = λ h. ap (text_refusal t.columns t.rows w) text-is ∙ unrefused t.columns t.rows w (marked w t.text.now ((c - 1) * t.rows) t.rows mark) (marked_sound t.columns t.rows w t.text.now (sound t.columns t.rows w t.text.now h) (c - 1) mark some is);
     }
 
     pub remarked_all : (Column (frames_view none w symbol t) c × Remarked (frames_view none w symbol t) c mark (frames_view none w symbol after)) × (is_mark mark ≡ true → Stays w t after)
@@ -129,8 +129,8 @@ module _ {X : Type 0} (none : X) (w : ℕ) (bytes : X → List ℕ) (symbol : Li
 -- the lines of a column lie in the text
 pub lines_fit : (s c m n size : ℕ) → 1 ≤ c → c ≤ m → is_whole s m n size ≡ true → ((c - 1) * n + n) * s ≤ size
 lines_fit s c m n size one last whole =
-    let step : (c - 1 + 1) * n ≤ m * n = mul_le_mul_right n (omega arith) in
-    let all : ((c - 1) * n + n) * s ≤ m * n * s = mul_le_mul_right s (omega arith) in
+    let step : (c - 1 + 1) * n ≤ m * n = mul-le-mul_right n (omega arith) in
+    let all : ((c - 1) * n + n) * s ≤ m * n * s = mul-le-mul_right s (omega arith) in
     omega (arith, whole_size s m n size whole)
 
 -- a lost mark drops a column, a present one admits it

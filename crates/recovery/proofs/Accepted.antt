@@ -1,6 +1,6 @@
 -- What the checks of an accepted rebuild say.
 use Rattle.std.proofs.Common.{◌≡◌, ℕ, ◌≤◌, Bool, true, false, not, ◌&&◌, ◌||◌, ltb, None, Ok, Err, Result, ◌∙◌, arith}
-use Rattle.std.proofs.lemmas.Bool.{eq_eqb, le_ltb}
+use Rattle.std.proofs.lemmas.Bool.{eq-eqb, le-ltb}
 use Rattle.std.proofs.lemmas.Bool.Decides.{nat_tests}
 use Rattle.code.specs.declared.refusal.Refusal.{Refusal}
 use Rattle.code.specs.declared.shape.Shape.{Shape}
@@ -27,8 +27,8 @@ accepted s g f count room h =
     let (fit, inside) = passed (not (fits s g)) _ _ losable in
     let (within, end) = passed _ _ _ inside in
     let (lost, told) = passed _ _ _ rest in
-    let (same, roomy_is) = passed _ _ _ later in
-    record { fit = is_so (fits s g) fit; one = low within; last = high within; helpers = none_told (lost_helper s f g) told; room_is = roomy s room roomy_is }
+    let (same, roomy-is) = passed _ _ _ later in
+    record { fit = is_so (fits s g) fit; one = low within; last = high within; helpers = none_told (lost_helper s f g) told; room_is = roomy s room roomy-is }
   where
     low : (ltb f 1 || ltb (columns_of s) f) ≡ false → 1 ≤ f
     low e = grind (arith, nat_tests)
@@ -49,11 +49,11 @@ module _ {X : Type 0} (s : Shape) (g : View X) (f : ℕ) where
 
   -- a lost parity column is rebuilt from all data columns
   pub can_load : (room : ℕ) → is_data s f ≡ false → Accepted s g f room → found_refusal s g room ≡ None
-  can_load room d a = rw (a.fit, rw d at a.helpers, le_ltb room (work_of s) a.room_is)
+  can_load room d a = rw (a.fit, rw d at a.helpers, le-ltb room (work_of s) a.room_is)
 
 -- what is left of the checks once the count is right
 pub to_room : {X : Type 0} (s : Shape) (g : View X) (f count room : ℕ) → quote_refusal s g f ≡ None → count ≡ count_of s f → rebuild_refusal s g f count room ≡ room_refusal s room
-to_room s g f count room quoted same = rw (quoted, eq_eqb count (count_of s f) same)
+to_room s g f count room quoted same = rw (quoted, eq-eqb count (count_of s f) same)
 
 pub allowed : {X U : Type 0} (s : Shape) (g : View X) (f count room : ℕ) (r : Result U Refusal) → rebuild_refusal s g f count room ≡ room_refusal s room → Roomy s room r → Allowed s g f count room r
 allowed s g f count room (Ok u) e h = e ∙ h

@@ -1,7 +1,7 @@
 -- Two arrays of which one column was rebuilt.
 use Rattle.std.proofs.Common.{◌≡◌, ℕ, ◌-◌, ◌<◌, ◌≤◌, true, false, not, ◌&&◌, ◌||◌, ltb, ◌↔◌, List, Some, None, Option, sym, ◌∙◌, subst, inl, inr, arith}
 use Rattle.code.specs.Refusals.{or_else}
-use Rattle.std.proofs.lemmas.Bool.{le_leb, lt_leb, cases_lt}
+use Rattle.std.proofs.lemmas.Bool.{le-leb, lt-leb, cases_lt}
 use Rattle.std.proofs.lemmas.Bool.Decides.{nat_tests}
 use Rattle.ring.specs.Sums.{BooleanGroup}
 use Rattle.code.specs.declared.shape.Shape.{Shape}
@@ -32,7 +32,7 @@ module _ {X : Type 0} (none : X) (plus : X → X → X) (s : Shape) (f : ℕ) wh
     of_data k marks c row place here differ same = (there, back)
       where
         d : is_data s f ≡ true
-        d = le_leb f s.k k
+        d = le-leb f s.k k
 
         first : (y : ℕ) → y < rows_of s → g'.at f y ≡ rebuilt none plus s f g.at y
         first y low = R.here y low ∙ rw d
@@ -55,7 +55,7 @@ module _ {X : Type 0} (none : X) (plus : X → X → X) (s : Shape) (f : ℕ) wh
     of_parity k marks c row place here differ same = (there, back)
       where
         d : is_data s f ≡ false
-        d = lt_leb f s.k k
+        d = lt-leb f s.k k
 
         low_row : row < rows_of s
         low_row = omega (arith, long s g a.fit, place.2)

@@ -1,6 +1,6 @@
 -- Losing and rebuilding keep the book, and the question is answered as it says.
 use Rattle.std.proofs.Common.{◌≡◌, ℕ, zero, suc, ◌+◌, ◌-◌, ◌<◌, ◌≤◌, Bool, true, false, cond, not, ◌&&◌, ◌||◌, ltb, List, Some, None, sym, refl, ap, ◌∙◌, subst, ap₂, inl, inr, arith}
-use Rattle.std.proofs.lemmas.Bool.{cases_lt, cases_eq, eq_eqb, ne_eqb, le_leb, lt_leb}
+use Rattle.std.proofs.lemmas.Bool.{cases_lt, cases_eq, eq-eqb, ne_eqb, le-leb, lt-leb}
 use Rattle.std.proofs.lemmas.Bool.Decides.{nat_tests}
 use Rattle.ring.specs.Sums.{BooleanGroup}
 use Rattle.code.specs.declared.shape.Shape.{Shape}
@@ -27,15 +27,15 @@ module _ {X : Type 0} (none : X) (plus : X → X → X) (s : Shape) where
 
       of_data : f ≤ s.k → Inside g c row × (g.lost c ≡ false)
       of_data last =
-          let d : is_data s f ≡ true = le_leb f s.k last in
-          let on_it : listed s f c row ≡ true = rw d at on in
-          let (one, most, low) = listed_column none plus s f a.one last c row on_it in
-          (here one most low, data_helpers s g f d a.helpers c one most (listed_helper none s f a.one last c row on_it))
+          let d : is_data s f ≡ true = le-leb f s.k last in
+          let on-it : listed s f c row ≡ true = rw d at on in
+          let (one, most, low) = listed_column none plus s f a.one last c row on-it in
+          (here one most low, data_helpers s g f d a.helpers c one most (listed_helper none s f a.one last c row on-it))
 
       of_parity : s.k < f → Inside g c row × (g.lost c ≡ false)
       of_parity past =
-          let d : is_data s f ≡ false = lt_leb f s.k past in
-          let on_it : (not (ltb c 1 || ltb s.k c) && ltb row (rows_of s)) ≡ true = rw d at on in
+          let d : is_data s f ≡ false = lt-leb f s.k past in
+          let on-it : (not (ltb c 1 || ltb s.k c) && ltb row (rows_of s)) ≡ true = rw d at on in
           let one : 1 ≤ c = grind (arith, nat_tests) in
           let last : c ≤ s.k = grind (arith, nat_tests) in
           let low : row < rows_of s = grind (arith, nat_tests) in
@@ -44,7 +44,7 @@ module _ {X : Type 0} (none : X) (plus : X → X → X) (s : Shape) where
   pub rebuilt_keeps : BooleanGroup none plus → (f : ℕ) (g h : View X) (n room : ℕ) (work : List X) → Accepted s g f room → Rebuilt none plus s f g n h work → Keeps none plus s (rebuilds f) true g h
   rebuilt_keeps L f g h n room work a R b A = record {
     marks = λ c inside. let was = column_was g h R.columns c inside in elim (cases_eq c f) [
-      | inl same ↦ ap h.lost same ∙ R.present ∙ rw (eq_eqb c f same)
+      | inl same ↦ ap h.lost same ∙ R.present ∙ rw (eq-eqb c f same)
       | inr other ↦ R.marks c was other ∙ A.marks c was ∙ rw (ne_eqb c f other)
     ];
     symbols = λ T e c row inside present. let was = place_was g h R.columns R.rows c row inside in elim (cases_eq c f) [

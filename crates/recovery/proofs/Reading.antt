@@ -1,7 +1,7 @@
 -- One turn more of the loops over the reading list.
-use Rattle.std.proofs.Common.{◌≡◌, ℕ, zero, suc, ◌+◌, ◌-◌, ◌*◌, ◌^◌, ◌<◌, ◌≤◌, Bool, true, false, cond, ◌⊎◌, List, length, get_or, set, Some, None, sym, refl, ap, ◌∙◌, subst, ap₂, inl, inr, mul_le_mul_right, add_one, arith}
+use Rattle.std.proofs.Common.{◌≡◌, ℕ, zero, suc, ◌+◌, ◌-◌, ◌*◌, ◌^◌, ◌<◌, ◌≤◌, Bool, true, false, cond, ◌⊎◌, List, length, get_or, set, Some, None, sym, refl, ap, ◌∙◌, subst, ap₂, inl, inr, mul-le-mul_right, add-one, arith}
 use Rattle.std.proofs.lemmas.Bool.{cases_eq, cases_order, both_ways}
-use Rattle.std.proofs.lemmas.List.{get_or_set_same, get_or_set_other}
+use Rattle.std.proofs.lemmas.List.{get_or-set_same, get_or-set_other}
 use Rattle.std.proofs.lemmas.Bool.Decides.{nat_tests}
 use Rattle.ring.specs.Sums.{sum_to, count}
 use Rattle.code.specs.declared.shape.Shape.{Shape}
@@ -14,7 +14,7 @@ use Rattle.recovery.specs.Progress.{Taken, Fetched, Filled, Collected}
 use Rattle.columns.proofs.Turns.{metered_none, metered_more}
 
 sum_more : {X : Type 0} (none : X) (plus : X → X → X) (n : ℕ) (F : ℕ → X) → sum_to none plus (n + 1) F ≡ plus (sum_to none plus n F) (F n)
-sum_more none plus n F = rw (add_one n)
+sum_more none plus n F = rw (add-one n)
 
 pub one_most : (b : Bool) → cond b 1 0 ≤ 1
 one_most true = omega arith
@@ -42,10 +42,10 @@ fetched_more none g h h' wanted c n start m k before after after' w e room F T =
     same = ap (λ (v : View _). v.at c n) F.meter
 
     now : (b : Bool) → b ≡ true → after' ≡ cond b (set after (start + n) (h.at c n)) after → get_or after' (start + n) none ≡ g.at c n
-    now b y z = ap (λ l. get_or l (start + n) none) (z ∙ rw y) ∙ get_or_set_same after (start + n) (h.at c n) none room ∙ same
+    now b y z = ap (λ l. get_or l (start + n) none) (z ∙ rw y) ∙ get_or-set_same after (start + n) (h.at c n) none room ∙ same
 
     other : (b : Bool) (x : ℕ) → (x ≡ start + n → ⊥) → after' ≡ cond b (set after (start + n) (h.at c n)) after → get_or after' x none ≡ get_or after x none
-    other true x ne z = ap (λ l. get_or l x none) z ∙ get_or_set_other after (start + n) x (h.at c n) none ne
+    other true x ne z = ap (λ l. get_or l x none) z ∙ get_or-set_other after (start + n) x (h.at c n) none ne
     other false x ne z = ap (λ l. get_or l x none) z
 
 module _ {X : Type 0} (none : X) (s : Shape) (f : ℕ) (one : 1 ≤ f) (last : f ≤ s.k) where
@@ -69,8 +69,8 @@ module _ {X : Type 0} (none : X) (s : Shape) (f : ℕ) (one : 1 ≤ f) (last : f
   elsewhere c d row ne hc hd low =
       elim (cases_order (slot s f d) (slot s f c)) [
         | inl e ↦ absurd (ne ((apart s f d c one last hd hc).1 e))
-        | inr (inl k) ↦ inl (omega (arith, mul_le_mul_right (rows_of s) k))
-        | inr (inr k) ↦ inr (omega (arith, mul_le_mul_right (rows_of s) k))
+        | inr (inl k) ↦ inl (omega (arith, mul-le-mul_right (rows_of s) k))
+        | inr (inr k) ↦ inr (omega (arith, mul-le-mul_right (rows_of s) k))
       ]
 
   -- `rows` and `start` are what the plan answered
@@ -108,7 +108,7 @@ module _ {X : Type 0} (none : X) (s : Shape) (f : ℕ) (one : 1 ≤ f) (last : f
   some_start c x e = (grind (arith, nat_tests), grind (arith, nat_tests))
 
   pub part_fits : (c : ℕ) → helper s f c ≡ true → slot s f c * rows_of s + rows_of s ≤ helpers_of s * rows_of s
-  part_fits c h = omega (arith, mul_le_mul_right (rows_of s) (apart s f c c one last h h).0)
+  part_fits c h = omega (arith, mul-le-mul_right (rows_of s) (apart s f c c one last h h).0)
 
   pub collected_all : (g h : View X) (n n' m : ℕ) (after : List X) → n ≡ n' → Collected none s f g n m h after → Collected none s f g n' m h after
   collected_all g h n n' m after e C = subst (λ x. Collected none s f g x m h after) e C

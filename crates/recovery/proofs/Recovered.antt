@@ -1,6 +1,6 @@
 -- What the steps of a rebuild come to, and what it is for.
 use Rattle.std.proofs.Common.{◌≡◌, ℕ, ◌+◌, ◌-◌, ◌*◌, ◌%◌, ◌^◌, ◌<◌, ◌≤◌, true, false, not, ◌&&◌, ◌||◌, ltb, List, sym, refl, ap, ◌∙◌, subst, inl, inr, arith}
-use Rattle.std.proofs.lemmas.Bool.{le_leb, lt_leb, cases_lt, eq_eqb, ne_eqb}
+use Rattle.std.proofs.lemmas.Bool.{le-leb, lt-leb, cases_lt, eq-eqb, ne_eqb}
 use Rattle.std.proofs.lemmas.Bool.Decides.{nat_tests}
 use Rattle.ring.specs.Sums.{BooleanGroup}
 use Rattle.ring.proofs.Classes.{at_row}
@@ -26,10 +26,10 @@ use Rattle.recovery.specs.Rebuild.{is_data, count_of, value_of, Rebuilt, Restore
 
 module _ {X : Type 0} (none : X) (plus : X → X → X) (s : Shape) where
   data_yes : (f : ℕ) → f ≤ s.k → is_data s f ≡ true
-  data_yes f h = le_leb f s.k h
+  data_yes f h = le-leb f s.k h
 
   data_no : (f : ℕ) → s.k < f → is_data s f ≡ false
-  data_no f h = lt_leb f s.k h
+  data_no f h = lt-leb f s.k h
 
   module _ (f : ℕ) (one : 1 ≤ f) (last : f ≤ s.k) where
     -- listed places are read of columns that there are
@@ -146,7 +146,7 @@ module _ {X : Type 0} (none : X) (plus : X → X → X) (s : Shape) where
           here row low = R.here row low ∙ rw d
 
           own : (column : ℕ → X) (row : ℕ) → column row ≡ with_column f column g.at f row
-          own column row = rw (eq_eqb f f refl)
+          own column row = rw (eq-eqb f f refl)
 
           others : (column : ℕ → X) (row : ℕ) → row < rows_of s → parity_of none plus s (with_column f column g.at) (f - s.k) row ≡ parity_of none plus s g.at (f - s.k) row
           others column row low = parity_same none plus s (with_column f column g.at) g.at (λ c r lo hi in_rows. rw (ne_eqb c f (λ e. omega arith))) (f - s.k) row low

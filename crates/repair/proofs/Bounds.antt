@@ -1,6 +1,6 @@
 -- A plan's numbers: what they are and how large.
-use Rattle.std.proofs.Common.{◌≡◌, ℕ, suc, ◌+◌, ◌-◌, ◌*◌, ◌/◌, ◌^◌, ◌<◌, ◌≤◌, cond, List, get_or, sym, ap, ◌∙◌, ap₂, mul_le_mul_right, mul_assoc, mul_le_mul_left, one_mul, pow_suc, mul_div_cancel, arith}
-use native.Mathlib.Nat.{pow_le_pow_right, mul_sub}
+use Rattle.std.proofs.Common.{◌≡◌, ℕ, suc, ◌+◌, ◌-◌, ◌*◌, ◌/◌, ◌^◌, ◌<◌, ◌≤◌, cond, List, get_or, sym, ap, ◌∙◌, ap₂, mul-le-mul_right, mul_assoc, mul-le-mul_left, one-mul, pow-suc, mul-div_cancel, arith}
+use native.Mathlib.Nat.{pow-le-pow_right, mul-sub}
 use Rattle.code.specs.declared.shape.Shape.{Shape}
 use Rattle.code.specs.Shapes.{parities_of, helpers_of, classes_of, rows_of, shift_of}
 use Rattle.code.proofs.Bounds.{classes_low}
@@ -13,7 +13,7 @@ use Rattle.repair.proofs.Frame as F
 module _ (s : Shape) (f : ℕ) (one : 1 ≤ f) (last : f ≤ s.k) where
   pub round_low : round s f ≤ 4096
   round_low =
-      let h : round s f ≤ classes_of s = pow_le_pow_right {n = s.q} (omega arith) (omega (arith, F.depth_high s f one last)) in
+      let h : round s f ≤ classes_of s = pow-le-pow_right {n = s.q} (omega arith) (omega (arith, F.depth_high s f one last)) in
       omega (arith, classes_low s, s.small)
 
   -- the steps are the shifts of the parity that has one
@@ -31,7 +31,7 @@ module _ (s : Shape) (f : ℕ) (one : 1 ≤ f) (last : f ≤ s.k) where
   round_pos = rw (F.round_is s f one last) (F.round_pos s f one last)
 
   home_rows : rows_of s / s.q ≡ (s.p - 1) * s.q ^ (s.k - 3)
-  home_rows = ap (λ x. x / s.q) (ap (λ n. (s.p - 1) * s.q ^ n) e ∙ ap (λ x. (s.p - 1) * x) (pow_suc s.q (s.k - 3)) ∙ sym (mul_assoc (s.p - 1) (s.q ^ (s.k - 3)) s.q)) ∙ mul_div_cancel ((s.p - 1) * s.q ^ (s.k - 3)) (omega arith)
+  home_rows = ap (λ x. x / s.q) (ap (λ n. (s.p - 1) * s.q ^ n) e ∙ ap (λ x. (s.p - 1) * x) (pow-suc s.q (s.k - 3)) ∙ sym (mul_assoc (s.p - 1) (s.q ^ (s.k - 3)) s.q)) ∙ mul-div_cancel ((s.p - 1) * s.q ^ (s.k - 3)) (omega arith)
     where
       e : s.k - 2 ≡ suc (s.k - 3)
       e = omega arith
@@ -39,16 +39,16 @@ module _ (s : Shape) (f : ℕ) (one : 1 ≤ f) (last : f ≤ s.k) where
   rounds_in : rows_of s / round s f ≡ (s.p - 1) * s.q ^ (s.k - depth s f - 2)
   rounds_in =
       let e : s.k - 2 - depth s f ≡ s.k - depth s f - 2 = omega arith in
-      ap (λ x. x / round s f) (F.whole_rounds s f one last) ∙ mul_div_cancel ((s.p - 1) * F.rounds s f one last) round_pos ∙ ap (λ n. (s.p - 1) * s.q ^ n) e
+      ap (λ x. x / round s f) (F.whole_rounds s f one last) ∙ mul-div_cancel ((s.p - 1) * F.rounds s f one last) round_pos ∙ ap (λ n. (s.p - 1) * s.q ^ n) e
 
   pub count_is : (helpers_of s + 1) * (rows_of s / s.q) - rows_of s / round s f ≡ formula s f
-  count_is = ap₂ (λ a b. (helpers_of s + 1) * a - b) home_rows rounds_in ∙ omega (arith, mul_sub (s.p - 1) ((helpers_of s + 1) * s.q ^ (s.k - 3)) (s.q ^ (s.k - depth s f - 2)))
+  count_is = ap₂ (λ a b. (helpers_of s + 1) * a - b) home_rows rounds_in ∙ omega (arith, mul-sub (s.p - 1) ((helpers_of s + 1) * s.q ^ (s.k - 3)) (s.q ^ (s.k - depth s f - 2)))
 
   pub count_low : rows_of s / round s f ≤ (helpers_of s + 1) * (rows_of s / s.q)
-  count_low = rw (home_rows, rounds_in) (omega (arith, step_le, mul_le_mul_right ((s.p - 1) * s.q ^ (s.k - 3)) many, one_mul ((s.p - 1) * s.q ^ (s.k - 3))))
+  count_low = rw (home_rows, rounds_in) (omega (arith, step_le, mul-le-mul_right ((s.p - 1) * s.q ^ (s.k - 3)) many, one-mul ((s.p - 1) * s.q ^ (s.k - 3))))
     where
       many : 1 ≤ helpers_of s + 1
       many = omega arith
 
       step_le : (s.p - 1) * s.q ^ (s.k - depth s f - 2) ≤ (s.p - 1) * s.q ^ (s.k - 3)
-      step_le = mul_le_mul_left (s.p - 1) (pow_le_pow_right {n = s.q} (omega arith) (omega (arith, F.depth_low s f one last)))
+      step_le = mul-le-mul_left (s.p - 1) (pow-le-pow_right {n = s.q} (omega arith) (omega (arith, F.depth_low s f one last)))

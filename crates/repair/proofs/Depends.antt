@@ -1,6 +1,6 @@
 -- What is rebuilt depends on the listed places alone, and on each of them.
-use Rattle.std.proofs.Common.{◌≡◌, ℕ, suc, ◌+◌, ◌-◌, ◌*◌, ◌%◌, ◌<◌, ◌≤◌, true, false, cond, ◌&&◌, ◌||◌, eqb, ltb, sym, refl, ap, ◌∙◌, subst, ap₂, inl, inr, mod_lt, arith}
-use Rattle.std.proofs.lemmas.Bool.{cases_eq, cases_Bool, eq_eqb, ne_eqb, ltb_true, and_parts}
+use Rattle.std.proofs.Common.{◌≡◌, ℕ, suc, ◌+◌, ◌-◌, ◌*◌, ◌%◌, ◌<◌, ◌≤◌, true, false, cond, ◌&&◌, ◌||◌, eqb, ltb, sym, refl, ap, ◌∙◌, subst, ap₂, inl, inr, mod-lt, arith}
+use Rattle.std.proofs.lemmas.Bool.{cases_eq, cases_Bool, eq-eqb, ne_eqb, ltb-true, and_parts}
 use Rattle.ring.specs.Sums.{BooleanGroup, sum_to}
 use Rattle.ring.specs.Cyclic.{Covers}
 use Rattle.ring.proofs.Sums.{sum_same, sum_rest, cancel}
@@ -17,7 +17,7 @@ use Rattle.repair.proofs.Listed.{needed_is_listed, chosen_helps, data_helps}
 use Rattle.repair.proofs.Solves.{positions_pos}
 
 pub in_ring : (s : Shape) (x : ℕ) → x % positions_of s < suc (s.p - 1) * classes_of s
-in_ring s x = let e : suc (s.p - 1) ≡ s.p = omega (arith, prime_low s) in rw e (mod_lt x (positions_pos s))
+in_ring s x = let e : suc (s.p - 1) ≡ s.p = omega (arith, prime_low s) in rw e (mod-lt x (positions_pos s))
 
 pub depends : {X : Type 0} → DependsOnListed X
 depends none plus s f one last A B same row low =
@@ -25,7 +25,7 @@ depends none plus s f one last A B same row low =
     (at_covered none plus (s.p - 1) (classes_of s) (A (s.k + chosen s f row)) (B (s.k + chosen s f row)) (position s f row) (in_ring s _) (λ r o. same _ r ((needed_is_listed s f _ r one last).0 (row, low, inl (refl, o)))))
     (sum_same none plus s.k _ _ (λ i k.
     elim (cases_eq (i + 1) f) [
-      | inl e ↦ rw (eq_eqb (i + 1) f e)
+      | inl e ↦ rw (eq-eqb (i + 1) f e)
       | inr e ↦ rw (ne_eqb (i + 1) f e) (at_covered none plus (s.p - 1) (classes_of s) (A (i + 1)) (B (i + 1)) (place s f row (i + 1)) (in_ring s _) (λ r o. same (i + 1) r ((needed_is_listed s f (i + 1) r one last).0 (row, low, inr (omega arith, omega arith, e, o)))))
     ]))
 
@@ -55,7 +55,7 @@ module _
     unfolding terms
     data_same i k ne =
         elim (cases_eq (i + 1) f) [
-          | inl e ↦ rw (eq_eqb (i + 1) f e)
+          | inl e ↦ rw (eq-eqb (i + 1) f e)
           | inr e ↦ rw (ne_eqb (i + 1) f e) (other L s same (i + 1) (place s f row (i + 1)) (in_ring s _) (data_helps s f one last (i + 1) (omega arith) (omega arith) e) ne)
         ]
 
@@ -99,7 +99,7 @@ differs {X} none plus L s f c r one last A B ne same = (there, back)
         agree : listed s f c r ≡ false → (e y : ℕ) → listed s f e y ≡ true → A e y ≡ B e y
         agree out e y in_List =
             let (low, rest) = and_parts (ltb y (rows_of s)) (helper s f e && (home s f y || added s f e y)) in_List in
-            same e y (and_parts (helper s f e) (home s f y || added s f e y) rest).0 (ltb_true y (rows_of s) low)
+            same e y (and_parts (helper s f e) (home s f y || added s f e y) rest).0 (ltb-true y (rows_of s) low)
             (λ z. let clash : true ≡ false = sym in_List ∙ ap₂ (listed s f) z.0 z.1 ∙ out in let w : ◌≡◌ {A = ℕ} 0 1 = cc in omega arith)
 
     back : listed s f c r ≡ true → (row : ℕ) × (row < rows_of s) × (rebuilt none plus s f A row ≡ rebuilt none plus s f B row → ⊥)

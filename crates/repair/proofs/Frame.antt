@@ -1,7 +1,7 @@
 -- A shape and a lost data column f in the numbers of Rounds.
-use Rattle.std.proofs.Common.{◌≡◌, ℕ, zero, suc, ◌+◌, ◌-◌, ◌*◌, ◌/◌, ◌%◌, ◌^◌, ◌<◌, ◌≤◌, Bool, true, false, cond, eqb, ltb, sym, refl, ap, ◌∙◌, ap₂, inl, inr, mul_le_mul_right, mod_lt, mul_assoc, div_lt_iff_lt_mul, mul_le_mul, one_mul, mul_zero, zero_mul, arith}
-use native.Mathlib.Nat.{mod_add_mod, add_mod_right, pow_zero, pow_succ', pow_le_pow_right, one_le_pow}
-use Rattle.std.proofs.lemmas.Bool.{cases_lt, cases_eq, cases_Bool, eq_eqb, ne_eqb, lt_ltb, le_ltb, le_leb, lt_leb}
+use Rattle.std.proofs.Common.{◌≡◌, ℕ, zero, suc, ◌+◌, ◌-◌, ◌*◌, ◌/◌, ◌%◌, ◌^◌, ◌<◌, ◌≤◌, Bool, true, false, cond, eqb, ltb, sym, refl, ap, ◌∙◌, ap₂, inl, inr, mul-le-mul_right, mod-lt, mul_assoc, div-lt_iff_lt-mul, mul-le-mul, one-mul, mul-zero, zero-mul, arith}
+use native.Mathlib.Nat.{mod-add-mod, add-mod_right, pow-zero, pow-succ', pow-le-pow_right, one-le-pow}
+use Rattle.std.proofs.lemmas.Bool.{cases_lt, cases_eq, cases_Bool, eq-eqb, ne_eqb, lt-ltb, le-ltb, le-leb, lt-leb}
 use Rattle.std.proofs.lemmas.Bool.Decides.{nat_tests}
 use Rattle.ring.specs.Cyclic.{shifted}
 use Rattle.code.specs.declared.shape.Shape.{Shape}
@@ -13,8 +13,8 @@ use Rattle.repair.specs.Rows.{block, chosen, position, place}
 use Rattle.repair.proofs.Rounds.{to_next, moved_to}
 
 pow_plus : (q a b : ℕ) → q ^ (a + b) ≡ q ^ a * q ^ b
-pow_plus q zero b = ap (λ x. q ^ x) (omega arith) ∙ sym (ap (λ x. x * q ^ b) (pow_zero q) ∙ one_mul (q ^ b))
-pow_plus q (suc a) b = ap (λ x. q ^ x) (omega arith) ∙ pow_succ' q (a + b) ∙ ap (λ x. q * x) (pow_plus q a b) ∙ sym (mul_assoc q (q ^ a) (q ^ b)) ∙ ap (λ x. x * q ^ b) (sym (pow_succ' q a))
+pow_plus q zero b = ap (λ x. q ^ x) (omega arith) ∙ sym (ap (λ x. x * q ^ b) (pow-zero q) ∙ one-mul (q ^ b))
+pow_plus q (suc a) b = ap (λ x. q ^ x) (omega arith) ∙ pow-succ' q (a + b) ∙ ap (λ x. q * x) (pow_plus q a b) ∙ sym (mul_assoc q (q ^ a) (q ^ b)) ∙ ap (λ x. x * q ^ b) (sym (pow-succ' q a))
 
 pub pow_at : (q a b n : ℕ) → a + b ≡ n → q ^ n ≡ q ^ a * q ^ b
 pow_at q a b n e = ap (λ x. q ^ x) (sym e) ∙ pow_plus q a b
@@ -38,7 +38,7 @@ module _ (s : Shape) (f : ℕ) (one : 1 ≤ f) (last : f ≤ s.k) where
   depth_high = let four = s.data_columns in grind (arith, nat_tests)
 
   pub round_is : round s f ≡ s.q * span s f
-  round_is = ap (λ n. s.q ^ n) (omega (arith, depth_low)) ∙ pow_succ' s.q (depth s f - 1)
+  round_is = ap (λ n. s.q ^ n) (omega (arith, depth_low)) ∙ pow-succ' s.q (depth s f - 1)
 
   pub classes_are : classes_of s ≡ s.q * span s f * rounds
   classes_are = pow_at s.q (depth s f) (s.k - 2 - depth s f) (s.k - 2) (omega (arith, depth_high)) ∙ ap (λ x. x * rounds) round_is
@@ -54,38 +54,38 @@ module _ (s : Shape) (f : ℕ) (one : 1 ≤ f) (last : f ≤ s.k) where
   whole_rounds = rows_are ∙ omega (arith, round_is, ap (λ x. (s.p - 1) * rounds * x) round_is)
 
   pub span_pos : 0 < span s f
-  span_pos = one_le_pow (depth s f - 1) s.q (omega arith)
+  span_pos = one-le-pow (depth s f - 1) s.q (omega arith)
 
   pub round_pos : 0 < s.q * span s f
-  round_pos = omega (arith, mul_le_mul_right (span s f) s.helping.0, span_pos)
+  round_pos = omega (arith, mul-le-mul_right (span s f) s.helping.0, span_pos)
 
   pub step_lost : step s f f ≡ span s f
-  step_lost = ap (λ n. cond (ltb n s.k) (s.q ^ (n - 1)) 0) near_depth ∙ rw (lt_ltb (depth s f) s.k (omega (arith, depth_high)))
+  step_lost = ap (λ n. cond (ltb n s.k) (s.q ^ (n - 1)) 0) near_depth ∙ rw (lt-ltb (depth s f) s.k (omega (arith, depth_high)))
 
   -- the shifts of the parities that serve, in both halves
   shift_by : (u i : ℕ) → u < s.q → 1 ≤ i → i ≤ s.k →
       shift_of s (cond (eqb u 0) 1 (cond (first_half s f) (s.q - u + 1) (s.q + u))) i ≡ cond (eqb u 0) 0 (s.q - u) * step s f i
   shift_by u i hu lo hi =
       elim (cases_eq u 0) [
-        | inl z ↦ rw (eq_eqb u 0 z, le_leb 1 s.q (omega arith)) (nought (ltb i s.k) (s.q ^ (i - 1)) ∙ sym (zero_mul _))
+        | inl z ↦ rw (eq-eqb u 0 z, le-leb 1 s.q (omega arith)) (nought (ltb i s.k) (s.q ^ (i - 1)) ∙ sym (zero-mul _))
         | inr z ↦ rw (ne_eqb u 0 z) (elim (cases_Bool (first_half s f)) [
-          | inl a ↦ rw (a, le_leb (s.q - u + 1) s.q (omega arith)) (push (ltb i s.k) (s.q - u + 1 - 1) (s.q - u) (s.q ^ (i - 1)) (omega arith))
-          | inr a ↦ rw (a, lt_leb (s.q + u) s.q (omega arith)) (elim (cases_lt 1 i) [
-            | inl n ↦ rw (lt_leb i 1 n, lt_ltb (s.k + 1 - i) s.k (omega arith)) (ap₂ ◌*◌ (omega arith) (ap (λ x. s.q ^ x) (omega arith)))
-            | inr n ↦ rw (le_leb i 1 n, le_ltb (s.k + 1 - i) s.k (omega arith)) (sym (mul_zero _))
+          | inl a ↦ rw (a, le-leb (s.q - u + 1) s.q (omega arith)) (push (ltb i s.k) (s.q - u + 1 - 1) (s.q - u) (s.q ^ (i - 1)) (omega arith))
+          | inr a ↦ rw (a, lt-leb (s.q + u) s.q (omega arith)) (elim (cases_lt 1 i) [
+            | inl n ↦ rw (lt-leb i 1 n, lt-ltb (s.k + 1 - i) s.k (omega arith)) (ap₂ ◌*◌ (omega arith) (ap (λ x. s.q ^ x) (omega arith)))
+            | inr n ↦ rw (le-leb i 1 n, le-ltb (s.k + 1 - i) s.k (omega arith)) (sym (mul-zero _))
           ])
         ])
       ]
     where
       nought : (b : Bool) (x : ℕ) → cond b ((1 - 1) * x) 0 ≡ 0
-      nought b x = elim b as (λ b. cond b ((1 - 1) * x) 0 ≡ 0) [ true ↦ zero_mul x | false ↦ refl ]
+      nought b x = elim b as (λ b. cond b ((1 - 1) * x) 0 ≡ 0) [ true ↦ zero-mul x | false ↦ refl ]
 
       push : (b : Bool) (m n x : ℕ) → m ≡ n → cond b (m * x) 0 ≡ n * cond b x 0
-      push b m n x e = elim b as (λ b. cond b (m * x) 0 ≡ n * cond b x 0) [ true ↦ ap (λ y. y * x) e | false ↦ sym (mul_zero n) ]
+      push b m n x e = elim b as (λ b. cond b (m * x) 0 ≡ n * cond b x 0) [ true ↦ ap (λ y. y * x) e | false ↦ sym (mul-zero n) ]
 
   -- the shifts of one step
   pub unit_shift : (i : ℕ) → 1 ≤ i → i ≤ s.k → shift_of s (cond (first_half s f) 2 (parities_of s)) i ≡ step s f i
-  unit_shift i lo hi = ap (λ j. shift_of s j i) parity ∙ shift_by (s.q - 1) i (omega arith) lo hi ∙ ap (λ x. x * step s f i) single ∙ one_mul (step s f i)
+  unit_shift i lo hi = ap (λ j. shift_of s j i) parity ∙ shift_by (s.q - 1) i (omega arith) lo hi ∙ ap (λ x. x * step s f i) single ∙ one-mul (step s f i)
     where
       two : 2 ≤ s.q
       two = s.helping.0
@@ -103,7 +103,7 @@ module _ (s : Shape) (f : ℕ) (one : 1 ≤ f) (last : f ≤ s.k) where
   block_is row = ap (λ x. (row % x) / span s f) round_is
 
   pub block_low : (row : ℕ) → (row % (s.q * span s f)) / span s f < s.q
-  block_low row = (div_lt_iff_lt_mul span_pos).1 (mod_lt row round_pos)
+  block_low row = (div-lt_iff_lt-mul span_pos).1 (mod-lt row round_pos)
 
   pub gap_is : (row : ℕ) → gap s f row ≡ gap_at row
   gap_is row = ap (λ u. cond (eqb u 0) 0 (s.q - u)) (block_is row)
@@ -129,12 +129,12 @@ module _ (s : Shape) (f : ℕ) (one : 1 ≤ f) (last : f ≤ s.k) where
   pub one_step_low : (i : ℕ) → step s f i ≤ classes_of s
   one_step_low i =
       elim (cases_lt (near s f i) s.k) [
-        | inl a ↦ rw (lt_ltb (near s f i) s.k a) (pow_le_pow_right (omega arith) (omega arith))
-        | inr a ↦ rw (le_ltb (near s f i) s.k a) (omega arith)
+        | inl a ↦ rw (lt-ltb (near s f i) s.k a) (pow-le-pow_right (omega arith) (omega arith))
+        | inr a ↦ rw (le-ltb (near s f i) s.k a) (omega arith)
       ]
 
   pub step_low : (δ i : ℕ) → δ < s.q → δ * step s f i ≤ suc (s.p - 1) * (s.q * span s f * rounds)
-  step_low δ i h = rw (← classes_are) (mul_le_mul (omega (arith, s.wide)) (one_step_low i))
+  step_low δ i h = rw (← classes_are) (mul-le-mul (omega (arith, s.wide)) (one_step_low i))
 
   pub place_is : (row i : ℕ) → 1 ≤ i → i ≤ s.k → place s f row i ≡ moved_to (s.q * span s f) rounds (s.p - 1) (gap_at row * span s f) (gap_at row * step s f i) row
   place_is row i lo hi = put positions_are (shift_is row f one last ∙ ap (λ x. gap_at row * x) step_lost) (shift_is row i lo hi)
@@ -151,4 +151,4 @@ module _ (s : Shape) (f : ℕ) (one : 1 ≤ f) (last : f ≤ s.k) where
       put e1 e2 = cc
 
       turned : (x N : ℕ) → x % N ≡ (x % N + (N - 0)) % N
-      turned x N = sym (mod_add_mod x N (N - 0) ∙ ap (λ y. y % N) (omega arith) ∙ add_mod_right x N)
+      turned x N = sym (mod-add-mod x N (N - 0) ∙ ap (λ y. y % N) (omega arith) ∙ add-mod_right x N)

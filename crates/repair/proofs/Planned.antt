@@ -1,6 +1,6 @@
 -- A plan's numbers are its shape's and its column's.
-use Rattle.std.proofs.Common.{◌≡◌, ℕ, suc, ◌+◌, ◌-◌, ◌*◌, ◌/◌, ◌%◌, ◌^◌, ◌<◌, ◌≤◌, true, cond, eqb, leb, List, length, get_or, Some, sym, ap, ◌∙◌, ap₂, mul_le_mul_right, arith}
-use Rattle.std.proofs.lemmas.Bool.{le_leb, lt_leb, lt_ltb, le_ltb, eq_eqb}
+use Rattle.std.proofs.Common.{◌≡◌, ℕ, suc, ◌+◌, ◌-◌, ◌*◌, ◌/◌, ◌%◌, ◌^◌, ◌<◌, ◌≤◌, true, cond, eqb, leb, List, length, get_or, Some, sym, ap, ◌∙◌, ap₂, mul-le-mul_right, arith}
+use Rattle.std.proofs.lemmas.Bool.{le-leb, lt-leb, lt-ltb, le-ltb, eq-eqb}
 use Rattle.ring.specs.Cyclic.{shifted}
 use Rattle.code.specs.Shapes.{helpers_of, rows_of, positions_of, shift_of}
 use Rattle.code.specs.Parities.{symbol_of}
@@ -46,7 +46,7 @@ module _ (u : Plan) where
 
   -- the lost column moves by less than a round
   pub moved_low : (n : ℕ) → n < u.shape.q → n * u.span ≤ 4096
-  moved_low n h = rw u.span_is (omega (arith, mul_le_mul_right {m = n} {n = u.shape.q} (span u.shape u.lost) (omega arith), F.round_is u.shape u.lost one last, B.round_low u.shape u.lost one last))
+  moved_low n h = rw u.span_is (omega (arith, mul-le-mul_right {m = n} {n = u.shape.q} (span u.shape u.lost) (omega arith), F.round_is u.shape u.lost one last, B.round_low u.shape u.lost one last))
 
   pub gap_low : (row : ℕ) → gap u.shape u.lost row < u.shape.q
   gap_low row = rw (F.gap_is u.shape u.lost one last row) (F.gap_low u.shape u.lost one last row)
@@ -79,18 +79,18 @@ module _ (u : Plan) where
   serving_helps row j e = rw e (L.chosen_helps u.shape u.lost one last row)
 
   pub first_parity_slot : (c : ℕ) → c ≡ u.shape.k + 1 → u.shape.k - 1 ≡ slot u.shape u.lost c
-  first_parity_slot c e = rw (le_ltb c u.lost (omega (arith, last)), lt_leb c u.shape.k (omega arith), eq_eqb c (u.shape.k + 1) e)
+  first_parity_slot c e = rw (le-ltb c u.lost (omega (arith, last)), lt-leb c u.shape.k (omega arith), eq-eqb c (u.shape.k + 1) e)
 
   -- a helper's part lies in the work area
   pub part_fits : (c : ℕ) → helper u.shape u.lost c ≡ true → slot u.shape u.lost c * rows_of u.shape + rows_of u.shape ≤ helpers_of u.shape * rows_of u.shape
-  part_fits c h = omega (arith, mul_le_mul_right (rows_of u.shape) (W.slot_low u.shape u.lost one last c h))
+  part_fits c h = omega (arith, mul-le-mul_right (rows_of u.shape) (W.slot_low u.shape u.lost one last c h))
 
   pub found : {X : Type 0} (none : X) (plus : X → X → X) (work : List X) (c x start : ℕ) → start ≡ slot u.shape u.lost c →
       helpers_of u.shape * rows_of u.shape ≤ length work → helper u.shape u.lost c ≡ true → x < positions_of u.shape →
       symbol_in_cells none plus work (start * u.rows) (u.shape.p - 1) u.classes x ≡ Some (symbol_of none plus u.shape (area none u.shape u.lost work c) x)
   found none plus work c x start is room help low =
       let p : suc (u.shape.p - 1) ≡ u.shape.p = omega (arith, prime_low u.shape) in
-      rw (u.rows_are, u.classes_are, is, le_leb (slot u.shape u.lost c * rows_of u.shape + rows_of u.shape) (length work) (omega (arith, part_fits c help)), p, lt_ltb x (positions_of u.shape) low)
+      rw (u.rows_are, u.classes_are, is, le-leb (slot u.shape u.lost c * rows_of u.shape + rows_of u.shape) (length work) (omega (arith, part_fits c help)), p, lt-ltb x (positions_of u.shape) low)
 
   -- the rows added to a column, from its step
   module _ (c : ℕ) (first : 1 ≤ c) (here : c ≤ u.shape.k) (n : ℕ) (is : n ≡ near u.shape u.lost c) (some : 1 ≤ n) (low : n < u.depth) where
@@ -108,7 +108,7 @@ module _ (u : Plan) where
     pub window_low : (u.shape.q - 1) * get_or u.steps (c - 1) 0 ≤ u.round
     window_low =
         rw (step_at, u.round_is)
-        (omega (arith, mul_le_mul_right {m = u.shape.q - 1} {n = u.shape.q} (u.shape.q ^ (near u.shape u.lost c - 1)) (omega arith), L.narrow u.shape u.lost one last c pos nearer, F.round_is u.shape u.lost one last, mul_le_mul_right {m = 1} {n = u.shape.q} (span u.shape u.lost) (omega arith)))
+        (omega (arith, mul-le-mul_right {m = u.shape.q - 1} {n = u.shape.q} (u.shape.q ^ (near u.shape u.lost c - 1)) (omega arith), L.narrow u.shape u.lost one last c pos nearer, F.round_is u.shape u.lost one last, mul-le-mul_right {m = 1} {n = u.shape.q} (span u.shape u.lost) (omega arith)))
 
     pub added_is : (r : ℕ) → leb (u.round - (u.shape.q - 1) * get_or u.steps (c - 1) 0) (r % u.round) ≡ added u.shape u.lost c r
-    added_is r = rw (step_at, u.round_is, le_leb c u.shape.k here, lt_ltb (near u.shape u.lost c) (depth u.shape u.lost) nearer)
+    added_is r = rw (step_at, u.round_is, le-leb c u.shape.k here, lt-ltb (near u.shape u.lost c) (depth u.shape u.lost) nearer)

@@ -1,5 +1,5 @@
 -- Each data place shows in every parity column.
-use Rattle.std.proofs.Common.{◌≡◌, ℕ, suc, ◌+◌, ◌-◌, ◌*◌, ◌%◌, ◌<◌, ◌≤◌, ◌∙◌, subst, ap₂, mod_eq_of_lt, one_mul, arith}
+use Rattle.std.proofs.Common.{◌≡◌, ℕ, suc, ◌+◌, ◌-◌, ◌*◌, ◌%◌, ◌<◌, ◌≤◌, ◌∙◌, subst, ap₂, mod-eq_of_lt, one-mul, arith}
 use Rattle.ring.specs.Cyclic.{Covers, shifted}
 use Rattle.ring.proofs.Sums.{sum_rest}
 use Rattle.code.specs.declared.shape.Shape.{Shape}
@@ -13,8 +13,8 @@ use Rattle.repair.proofs.Depends.{in_ring, other, here}
 -- a row whose sum takes in row r of a column that is shifted by a
 meets : (s : Shape) (a r : ℕ) → r < rows_of s → (row : ℕ) × (row < rows_of s) × Covers (s.p - 1) (classes_of s) (shifted (positions_of s) a row) r
 meets s a r low =
-    let (row, h, o) = subst Met (one_mul (classes_of s)) (met 1 (classes_of s) b 0 a r (rw one_mul low)) in
-    (row, h, subst (λ x. Covers b (classes_of s) x r) (ap₂ (λ p x. shifted (p * classes_of s) a x) blocks (mod_eq_of_lt (omega arith) ∙ omega arith)) o)
+    let (row, h, o) = subst Met (one-mul (classes_of s)) (met 1 (classes_of s) b 0 a r (rw one-mul low)) in
+    (row, h, subst (λ x. Covers b (classes_of s) x r) (ap₂ (λ p x. shifted (p * classes_of s) a x) blocks (mod-eq_of_lt (omega arith) ∙ omega arith)) o)
   where
     b : ℕ
     b = s.p - 1

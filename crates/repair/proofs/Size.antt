@@ -1,7 +1,7 @@
 -- The reading list's size is the formula.
-use Rattle.std.proofs.Common.{◌≡◌, ℕ, zero, suc, ◌+◌, ◌-◌, ◌*◌, ◌%◌, ◌^◌, ◌<◌, ◌≤◌, Bool, true, false, cond, ◌&&◌, ◌||◌, eqb, ltb, leb, sym, ap, ◌∙◌, ap₂, inl, inr, mul_le_mul_right, mul_zero, add_one, arith}
-use native.Mathlib.Nat.{pow_succ', pow_le_pow_right, mul_sub}
-use Rattle.std.proofs.lemmas.Bool.{cases_lt, cases_eq, cases_Bool, eq_eqb, ne_eqb, lt_ltb, le_ltb, le_leb, lt_leb}
+use Rattle.std.proofs.Common.{◌≡◌, ℕ, zero, suc, ◌+◌, ◌-◌, ◌*◌, ◌%◌, ◌^◌, ◌<◌, ◌≤◌, Bool, true, false, cond, ◌&&◌, ◌||◌, eqb, ltb, leb, sym, ap, ◌∙◌, ap₂, inl, inr, mul-le-mul_right, mul-zero, add-one, arith}
+use native.Mathlib.Nat.{pow-succ', pow-le-pow_right, mul-sub}
+use Rattle.std.proofs.lemmas.Bool.{cases_lt, cases_eq, cases_Bool, eq-eqb, ne_eqb, lt-ltb, le-ltb, le-leb, lt-leb}
 use Rattle.std.proofs.lemmas.Bool.Decides.{nat_tests}
 use Rattle.ring.specs.Sums.{count}
 use Rattle.ring.proofs.Sums.{sum_same, sum_add, sum_split, sum_first}
@@ -18,7 +18,7 @@ finish : (k q b c h : ℕ) → 0 < h → k * (b * c * h) + b * c * (h - 1) + q *
 finish k q b c zero e = absurd (omega arith)
 finish k q b c (suc h) e =
     let d : suc h - 1 ≡ h = omega arith in
-    rw (d, mul_sub b ((k + q + 1) * (c * suc h)) c) (omega arith)
+    rw (d, mul-sub b ((k + q + 1) * (c * suc h)) c) (omega arith)
 
 module _ (s : Shape) (f : ℕ) (one : 1 ≤ f) (last : f ≤ s.k) where
   abbrev g : ℕ
@@ -39,18 +39,18 @@ module _ (s : Shape) (f : ℕ) (one : 1 ≤ f) (last : f ≤ s.k) where
 
   by_round : (i : ℕ) → places i ≡ m * count (round s f) (test i)
   by_round i =
-      count_same (rows_of s) (λ r. listed s f i r) (λ r. test i (r % round s f)) (λ r k. rw (lt_ltb r (rows_of s) k))
+      count_same (rows_of s) (λ r. listed s f i r) (λ r. test i (r % round s f)) (λ r k. rw (lt-ltb r (rows_of s) k))
       ∙ ap (λ n. count n (λ r. test i (r % round s f))) (F.whole_rounds s f one last)
       ∙ count_rounds m (round s f) (test i)
 
   twice : h + h ≤ round s f
-  twice = omega (arith, F.round_is s f one last, mul_le_mul_right h s.helping.0)
+  twice = omega (arith, F.round_is s f one last, mul-le-mul_right h s.helping.0)
 
   home_count : count (round s f) (λ x. ltb x h) ≡ h
   home_count = omega (arith, count_below (round s f) h, twice)
 
   no_helper : (i : ℕ) → helper s f i ≡ false → places i ≡ 0
-  no_helper i e = by_round i ∙ ap (λ n. m * n) (count_same (round s f) (test i) (λ a. false) (λ a k. rw e) ∙ count_none (round s f)) ∙ mul_zero m
+  no_helper i e = by_round i ∙ ap (λ n. m * n) (count_same (round s f) (test i) (λ a. false) (λ a k. rw e) ∙ count_none (round s f)) ∙ mul-zero m
 
   far : (i : ℕ) → helper s f i ≡ true → (leb i s.k && ltb (near s f i) g) ≡ false → places i ≡ m * h
   far i e a = by_round i ∙ ap (λ n. m * n) (count_same (round s f) (test i) (λ x. ltb x h) (λ x k. rw e (drop (ltb x h) (leb i s.k) (ltb (near s f i) g) _ a)) ∙ home_count)
@@ -61,7 +61,7 @@ module _ (s : Shape) (f : ℕ) (one : 1 ≤ f) (last : f ≤ s.k) where
   close : (i : ℕ) → helper s f i ≡ true → i ≤ s.k → 1 ≤ near s f i → near s f i < g → places i ≡ m * h + m * ((s.q - 1) * s.q ^ (near s f i - 1))
   close i e hi lo a =
       by_round i ∙ ap (λ n. m * n) (
-      count_same (round s f) (test i) (λ x. ltb x h || leb (round s f - wide) x) (λ x k. rw (e, le_leb i s.k hi, lt_ltb (near s f i) g a))
+      count_same (round s f) (test i) (λ x. ltb x h || leb (round s f - wide) x) (λ x k. rw (e, le-leb i s.k hi, lt-ltb (near s f i) g a))
       ∙ count_or (round s f) (λ x. ltb x h) (λ x. leb (round s f - wide) x) (λ x k. apart x)
       ∙ ap₂ ◌+◌ home_count (count_from (round s f) (round s f - wide))
       ) ∙ omega (arith, ap (λ x. m * x) back)
@@ -73,10 +73,10 @@ module _ (s : Shape) (f : ℕ) (one : 1 ≤ f) (last : f ≤ s.k) where
       wide = (s.q - 1) * w
 
       step : s.q * w ≤ h
-      step = rw (← pow_succ') (pow_le_pow_right (omega arith) (omega arith))
+      step = rw (← pow-succ') (pow-le-pow_right (omega arith) (omega arith))
 
       narrow : wide ≤ h
-      narrow = omega (arith, step, mul_le_mul_right {m = s.q - 1} {n = s.q} w (omega arith))
+      narrow = omega (arith, step, mul-le-mul_right {m = s.q - 1} {n = s.q} w (omega arith))
 
       back : round s f - (round s f - wide) ≡ wide
       back = omega (arith, narrow, twice)
@@ -91,10 +91,10 @@ module _ (s : Shape) (f : ℕ) (one : 1 ≤ f) (last : f ≤ s.k) where
   data_part : (a : ℕ) → a < s.k → places (suc a) ≡ part (near s f (suc a))
   data_part a ha =
       elim (cases_eq (near s f (suc a)) g) [
-        | inl e ↦ no_helper (suc a) (own (same_f e)) ∙ sym (rw (eq_eqb (near s f (suc a)) g e))
+        | inl e ↦ no_helper (suc a) (own (same_f e)) ∙ sym (rw (eq-eqb (near s f (suc a)) g e))
         | inr e ↦ elim (cases_lt (near s f (suc a)) g) [
-          | inl k ↦ close (suc a) (other e) (omega arith) near_pos k ∙ sym (rw (ne_eqb (near s f (suc a)) g e, lt_ltb (near s f (suc a)) g k))
-          | inr k ↦ far (suc a) (other e) (no k) ∙ sym (rw (ne_eqb (near s f (suc a)) g e, le_ltb (near s f (suc a)) g k) (omega arith))
+          | inl k ↦ close (suc a) (other e) (omega arith) near_pos k ∙ sym (rw (ne_eqb (near s f (suc a)) g e, lt-ltb (near s f (suc a)) g k))
+          | inr k ↦ far (suc a) (other e) (no k) ∙ sym (rw (ne_eqb (near s f (suc a)) g e, le-ltb (near s f (suc a)) g k) (omega arith))
         ]
       ]
     where
@@ -114,7 +114,7 @@ module _ (s : Shape) (f : ℕ) (one : 1 ≤ f) (last : f ≤ s.k) where
       other : (near s f (suc a) ≡ g → ⊥) → helper s f (suc a) ≡ true
       other ne =
           let n : suc a ≡ f → ⊥ = λ e. ne (ap (near s f) e ∙ F.near_depth s f one last) in
-          rw (le_leb (suc a) s.k (omega arith), le_leb 1 (suc a) (omega arith), ne_eqb (suc a) f n)
+          rw (le-leb (suc a) s.k (omega arith), le-leb 1 (suc a) (omega arith), ne_eqb (suc a) f n)
 
       no : g ≤ near s f (suc a) → (leb (suc a) s.k && ltb (near s f (suc a)) g) ≡ false
       no k = grind (arith, nat_tests)
@@ -146,18 +146,18 @@ module _ (s : Shape) (f : ℕ) (one : 1 ≤ f) (last : f ≤ s.k) where
       front =
           sum_same 0 ◌+◌ (g - 1) (λ a. part (suc a)) (λ a. m * h + m * ((s.q - 1) * s.q ^ a)) (λ a k.
           let n : suc a ≡ g → ⊥ = λ e. omega arith in
-          rw (ne_eqb (suc a) g n, lt_ltb (suc a) g (omega arith)) (ap (λ x. m * h + m * ((s.q - 1) * s.q ^ x)) (omega arith)))
+          rw (ne_eqb (suc a) g n, lt-ltb (suc a) g (omega arith)) (ap (λ x. m * h + m * ((s.q - 1) * s.q ^ x)) (omega arith)))
           ∙ sum_add numbers (g - 1) (λ a. m * h) (λ a. m * ((s.q - 1) * s.q ^ a))
           ∙ ap₂ ◌+◌ (total_const (g - 1) (m * h)) (total_times m (g - 1) (λ a. (s.q - 1) * s.q ^ a) ∙ ap (λ x. m * x) (powers s.q (g - 1) (omega arith)))
 
       here : part (suc (g - 1 + 0)) ≡ 0
-      here = rw (eq_eqb (suc (g - 1 + 0)) g (omega (arith, F.depth_low s f one last)))
+      here = rw (eq-eqb (suc (g - 1 + 0)) g (omega (arith, F.depth_low s f one last)))
 
       rest : total (s.k - g) (λ a. part (suc (g - 1 + suc a))) ≡ (s.k - g) * (m * h)
       rest =
           sum_same 0 ◌+◌ (s.k - g) (λ a. part (suc (g - 1 + suc a))) (λ a. m * h) (λ a k.
           let n : suc (g - 1 + suc a) ≡ g → ⊥ = λ e. omega arith in
-          rw (ne_eqb (suc (g - 1 + suc a)) g n, le_ltb (suc (g - 1 + suc a)) g (omega arith)) (omega arith))
+          rw (ne_eqb (suc (g - 1 + suc a)) g n, le-ltb (suc (g - 1 + suc a)) g (omega arith)) (omega arith))
           ∙ total_const (s.k - g) (m * h)
 
   parity_part : (j : ℕ) → places (suc (s.k + j)) ≡ cond (helping s f (suc j)) (m * h) 0
@@ -168,10 +168,10 @@ module _ (s : Shape) (f : ℕ) (one : 1 ≤ f) (last : f ≤ s.k) where
       ]
     where
       past : helper s f (suc (s.k + j)) ≡ helping s f (suc j)
-      past = rw (lt_leb (suc (s.k + j)) s.k (omega arith)) (ap (helping s f) (omega arith))
+      past = rw (lt-leb (suc (s.k + j)) s.k (omega arith)) (ap (helping s f) (omega arith))
 
       out : (leb (suc (s.k + j)) s.k && ltb (near s f (suc (s.k + j))) g) ≡ false
-      out = rw (lt_leb (suc (s.k + j)) s.k (omega arith))
+      out = rw (lt-leb (suc (s.k + j)) s.k (omega arith))
 
   parities : total (parities_of s) (λ j. cond (helping s f (suc j)) (m * h) 0) ≡ s.q * (m * h)
   parities =
@@ -195,7 +195,7 @@ module _ (s : Shape) (f : ℕ) (one : 1 ≤ f) (last : f ≤ s.k) where
       constant n F x e = sum_same 0 ◌+◌ n F (λ a. x) e ∙ total_const n x
 
       nothing : (n : ℕ) (F : ℕ → ℕ) → ((a : ℕ) → a < n → F a ≡ 0) → total n F ≡ 0
-      nothing n F e = constant n F 0 e ∙ mul_zero n
+      nothing n F e = constant n F 0 e ∙ mul-zero n
 
       up : s.q ≡ suc (s.q - 1)
       up = omega arith
@@ -229,7 +229,7 @@ module _ (s : Shape) (f : ℕ) (one : 1 ≤ f) (last : f ≤ s.k) where
 
   all : size s f ≡ formula s f
   all =
-      sum_same 0 ◌+◌ (columns_of s) (λ c. places (c + 1)) (λ c. places (suc c)) (λ c k. ap places (add_one c))
+      sum_same 0 ◌+◌ (columns_of s) (λ c. places (c + 1)) (λ c. places (suc c)) (λ c k. ap places (add-one c))
       ∙ sum_split numbers s.k (parities_of s) (λ c. places (suc c))
       ∙ ap₂ ◌+◌ (sum_same 0 ◌+◌ s.k _ _ data_part ∙ turned ∙ parts) (sum_same 0 ◌+◌ (parities_of s) _ _ (λ j k. parity_part j) ∙ parities)
       ∙ finish (s.k - 1) s.q (s.p - 1) (F.rounds s f one last) h (F.span_pos s f one last)

@@ -1,7 +1,7 @@
 -- A row makes the sum that serves it true just if it is the rebuilt one; so an encoded array's own column comes back.
-use Rattle.std.proofs.Common.{◌≡◌, ℕ, ◌+◌, ◌-◌, ◌%◌, ◌<◌, ◌≤◌, true, cond, eqb, sym, refl, ap, ◌∙◌, ap₂, inl, inr, mod_lt, mod_eq_of_lt, arith}
-use native.Mathlib.Nat.{mod_add_mod, add_mod_right}
-use Rattle.std.proofs.lemmas.Bool.{cases_eq, eq_eqb, ne_eqb}
+use Rattle.std.proofs.Common.{◌≡◌, ℕ, ◌+◌, ◌-◌, ◌%◌, ◌<◌, ◌≤◌, true, cond, eqb, sym, refl, ap, ◌∙◌, ap₂, inl, inr, mod-lt, mod-eq_of_lt, arith}
+use native.Mathlib.Nat.{mod-add-mod, add-mod_right}
+use Rattle.std.proofs.lemmas.Bool.{cases_eq, eq-eqb, ne_eqb}
 use Rattle.ring.specs.Sums.{BooleanGroup, sum_to}
 use Rattle.ring.proofs.Sums.{sum_same, sum_but, cancel}
 use Rattle.ring.proofs.Classes.{at_row}
@@ -18,15 +18,15 @@ positions_pos s = omega (arith, positions_are s, classes_pos s)
 
 module _ (s : Shape) (f : ℕ) (one : 1 ≤ f) (last : f ≤ s.k) (row : ℕ) where
   pub position_low : position s f row < positions_of s
-  position_low = mod_lt _ (positions_pos s)
+  position_low = mod-lt _ (positions_pos s)
 
   -- the sum that serves a row takes that very row of f
   place_own : row < rows_of s → place s f row f ≡ row
   place_own low =
-      mod_add_mod (row + A) N (N - A)
+      mod-add-mod (row + A) N (N - A)
       ∙ ap (λ x. x % N) (omega (arith, fits))
-      ∙ add_mod_right row N
-      ∙ mod_eq_of_lt (omega (arith, positions_are s))
+      ∙ add-mod_right row N
+      ∙ mod-eq_of_lt (omega (arith, positions_are s))
     where
       N : ℕ
       N = positions_of s
@@ -60,7 +60,7 @@ module _ {X : Type 0} {none : X} {plus : X → X → X} (L : BooleanGroup none p
   whole = ap (plus (sum_to none plus s.k term)) (sum_same none plus s.k _ _ (λ i k. ap (λ b. cond b none (term i)) (test i))) ∙ sum_but L s.k (f - 1) term (omega arith) ∙ own
     where
       test : (i : ℕ) → eqb (i + 1) f ≡ eqb i (f - 1)
-      test i = elim (cases_eq (i + 1) f) [ inl e ↦ eq_eqb (i + 1) f e ∙ sym (eq_eqb i (f - 1) (omega arith)) | inr e ↦ ne_eqb (i + 1) f e ∙ sym (ne_eqb i (f - 1) (λ z. e (omega arith))) ]
+      test i = elim (cases_eq (i + 1) f) [ inl e ↦ eq-eqb (i + 1) f e ∙ sym (eq-eqb i (f - 1) (omega arith)) | inr e ↦ ne_eqb (i + 1) f e ∙ sym (ne_eqb i (f - 1) (λ z. e (omega arith))) ]
 
   pub solved : SumHolds none plus s f at row → at f row ≡ rebuilt none plus s f at row
   unfolding term others
@@ -81,7 +81,7 @@ module _ {X : Type 0} (none : X) (plus : X → X → X) (s : Shape) (f : ℕ) (o
       (ap (λ y. symbol_of none plus s y (position s f row)) (kept (s.k + chosen s f row) (λ e. omega (arith, (F.chosen_range s f one last row).0))))
       (sum_same none plus s.k _ _ (λ i k.
       elim (cases_eq (i + 1) f) [
-        | inl e ↦ rw (eq_eqb (i + 1) f e)
+        | inl e ↦ rw (eq-eqb (i + 1) f e)
         | inr e ↦ rw (ne_eqb (i + 1) f e)
       ]))
 
@@ -95,7 +95,7 @@ only_solution {X} none plus L s f one last at column row low = (
     W = with_column f column at
 
     put : W f row ≡ column row
-    put = ap (λ b. cond b column (at f) row) (eq_eqb f f refl)
+    put = ap (λ b. cond b column (at f) row) (eq-eqb f f refl)
 
 pub gives_back : {X : Type 0} → GivesBack X
 gives_back none plus L s f one last at encoded row low =

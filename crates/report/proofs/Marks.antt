@@ -1,6 +1,6 @@
 -- The marks of a store that fits the shape, and what the checks of a quote say of them.
 use Rattle.std.proofs.Common.{◌≡◌, ℕ, zero, suc, ◌+◌, ◌≤◌, Bool, true, false, cond, ◌&&◌, Some, None, Option, sym, refl, ap, ◌∙◌, subst, ap₂, arith}
-use Rattle.std.proofs.lemmas.Bool.{le_ltb}
+use Rattle.std.proofs.lemmas.Bool.{le-ltb}
 use Rattle.code.specs.declared.refusal.Refusal.{Refusal}
 use Rattle.code.specs.declared.shape.Shape.{Shape}
 use Rattle.code.specs.Refusals.{or_else}
@@ -29,13 +29,13 @@ named lost zero f e = absurd (let z : ◌≡◌ {A = ℕ} 0 1 = cc in omega arit
 named lost (suc n) f e = go (lowest_lost lost n) (lost (n + 1)) (named lost n f) refl refl e
   where
     go : (below : Option ℕ) (here : Bool) → (lowest_lost lost n ≡ Some f → Named lost n f) → lowest_lost lost n ≡ below → lost (n + 1) ≡ here → or_else below (cond here (Some (n + 1)) None) ≡ Some f → Named lost (suc n) f
-    go (Some d) here lower below_is here_is is = let N = lower (below_is ∙ is) in record { one = N.one; last = omega (arith, N.last); gone = N.gone }
-    go None true lower below_is here_is is = let same : n + 1 ≡ f = cc in record { one = omega arith; last = omega arith; gone = subst (λ c. lost c ≡ true) same here_is }
-    go None false lower below_is here_is is = absurd (let z : ◌≡◌ {A = ℕ} 0 1 = cc in omega arith)
+    go (Some d) here lower below-is here-is is = let N = lower (below-is ∙ is) in record { one = N.one; last = omega (arith, N.last); gone = N.gone }
+    go None true lower below-is here-is is = let same : n + 1 ≡ f = cc in record { one = omega arith; last = omega arith; gone = subst (λ c. lost c ≡ true) same here-is }
+    go None false lower below-is here-is is = absurd (let z : ◌≡◌ {A = ℕ} 0 1 = cc in omega arith)
 
 module _ (s : Shape) (g : View Byte) (fit : fits s g ≡ true) where
   counted : (c : ℕ) → 1 ≤ c → c ≤ columns_of s → counts_as_lost g c ≡ g.lost c
-  counted c one last = let w = wide s g fit in rw (le_ltb c 1 one, le_ltb g.columns c (omega arith))
+  counted c one last = let w = wide s g fit in rw (le-ltb c 1 one, le-ltb g.columns c (omega arith))
 
   pub lowest_is : lowest_lost (counts_as_lost g) g.columns ≡ lowest s g.lost
   lowest_is = ap (lowest_lost (counts_as_lost g)) (wide s g fit) ∙ lowest_same (counts_as_lost g) g.lost (columns_of s) counted
@@ -48,7 +48,7 @@ module _ (s : Shape) (g : View Byte) (fit : fits s g ≡ true) where
   quote_is f e =
       let N = named g.lost (columns_of s) f e in
       let w = wide s g fit in
-      rw (fit, le_ltb f 1 N.one, le_ltb (columns_of s) f N.last, le_ltb g.columns f (omega (arith, N.last)), N.gone) (ap lost_refusal (helper_is f))
+      rw (fit, le-ltb f 1 N.one, le-ltb (columns_of s) f N.last, le-ltb g.columns f (omega (arith, N.last)), N.gone) (ap lost_refusal (helper_is f))
 
   pub none_told : lowest_lost (counts_as_lost g) g.columns ≡ None → restored s g.at None ≡ told s g.lost g.at
   none_told none = let l : lowest s g.lost ≡ None = sym lowest_is ∙ none in rw l

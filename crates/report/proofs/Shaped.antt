@@ -1,7 +1,7 @@
 -- A shape is determined by its numbers.
 use Rattle.std.proofs.Common.{◌≡◌, ℕ, ◌≤◌, true, List, Some, None, Option, ap, arith}
 use mathlib.Core.HLevel.{is_prop→PathP, ×_prop}
-use mathlib.Core.Bool.{BoolSet}
+use mathlib.Core.Bool.{Bool-set}
 use native.Mathlib.Bridge.{le_prop}
 use Rattle.code.specs.declared.refusal.Refusal.{Refusal}
 use Rattle.code.specs.declared.shape.Shape.{Shape}
@@ -16,7 +16,7 @@ same_shape s t ek eq ep = λ i. record {
   p = ep i;
   data_columns = is_prop→PathP (λ j. (4 ≤ ek j) × (ek j ≤ 12)) (λ j. ×_prop le_prop le_prop) s.data_columns t.data_columns i;
   helping = is_prop→PathP (λ j. (2 ≤ eq j) × (eq j ≤ 4)) (λ j. ×_prop le_prop le_prop) s.helping t.helping i;
-  prime = is_prop→PathP (λ j. one_of listed (ep j) ≡ true) (λ j. BoolSet (one_of listed (ep j)) true) s.prime t.prime i;
+  prime = is_prop→PathP (λ j. one_of listed (ep j) ≡ true) (λ j. Bool-set (one_of listed (ep j)) true) s.prime t.prime i;
   wide = is_prop→PathP (λ j. eq j ≤ ep j) (λ j. le_prop) s.wide t.wide i;
   small = is_prop→PathP (λ j. rows (ek j) (eq j) (ep j) ≤ 4096) (λ j. le_prop) s.small t.small i;
 }

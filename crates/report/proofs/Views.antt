@@ -1,6 +1,6 @@
 -- What a frame store over a text that passed the check means.
 use Rattle.std.proofs.Common.{◌≡◌, ℕ, Bool, true, false, cond, List, None, ◌∙◌, ap₂, arith}
-use Rattle.std.proofs.lemmas.Bool.{eq_eqb}
+use Rattle.std.proofs.lemmas.Bool.{eq-eqb}
 use Rattle.symbol.specs.declared.byte.Byte.{Byte}
 use Rattle.symbol.specs.Bytes.{byte, byte_of}
 use Rattle.code.specs.declared.shape.Shape.{Shape}
@@ -28,7 +28,7 @@ module _
   rows_are = new.rows ∙ rw passed
 
   pub fitting : fits s (view_of t) ≡ true
-  fitting = rw (eq_eqb (view_of t).columns (columns_of s) columns_are, eq_eqb (view_of t).rows (rows_of s) rows_are)
+  fitting = rw (eq-eqb (view_of t).columns (columns_of s) columns_are, eq-eqb (view_of t).rows (rows_of s) rows_are)
 
   -- the text has the right length, so the rows count
   counted : t.rows ≡ rows_of s

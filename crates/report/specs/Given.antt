@@ -1,7 +1,7 @@
 -- The shape of numbers that no rule refuses.
 use Rattle.std.specs.Prelude.{◌≡◌, ℕ, ◌≤◌, Bool, true, false, not, None, Option, nat_lt, refl}
 use Rattle.std.proofs.Common.{arith}
-use Rattle.std.proofs.lemmas.Bool.{ltb_false, or_parts, not_false}
+use Rattle.std.proofs.lemmas.Bool.{ltb-false, or_parts, not-false}
 use Rattle.code.specs.declared.refusal.Refusal.{Refusal}
 use Rattle.code.specs.declared.shape.Shape.{Shape}
 use Rattle.code.specs.Refusals.{refuse}
@@ -13,23 +13,23 @@ passed true e next h = absurd (let z : ◌≡◌ {A = ℕ} 0 1 = cc in omega ari
 passed false e next h = (refl, h)
 
 pub within : (low high x : ℕ) → outside low high x ≡ false → (low ≤ x) × (x ≤ high)
-within low high x h = let (a, b) = or_parts (nat_lt x low) (nat_lt high x) h in (ltb_false x low a, ltb_false high x b)
+within low high x h = let (a, b) = or_parts (nat_lt x low) (nat_lt high x) h in (ltb-false x low a, ltb-false high x b)
 
 -- the shape of k, q and p
 abbrev pub shape_of : (k q p : ℕ) → shape_refusal k q p ≡ None → Shape
 shape_of k q p fine =
-    let (k_bad, more) = passed _ _ _ fine in
-    let (q_bad, more) = passed _ _ _ more in
-    let (p_bad, more) = passed _ _ _ more in
+    let (k-bad, more) = passed _ _ _ fine in
+    let (q-bad, more) = passed _ _ _ more in
+    let (p-bad, more) = passed _ _ _ more in
     let (narrow, more) = passed _ _ _ more in
     let (large, more) = passed _ _ _ more in
     record {
       k = k;
       q = q;
       p = p;
-      data_columns = within 4 12 k k_bad;
-      helping = within 2 4 q q_bad;
-      prime = not_false (one_of listed p) p_bad;
-      wide = ltb_false p q narrow;
-      small = ltb_false 4096 (rows k q p) large;
+      data_columns = within 4 12 k k-bad;
+      helping = within 2 4 q q-bad;
+      prime = not-false (one_of listed p) p-bad;
+      wide = ltb-false p q narrow;
+      small = ltb-false 4096 (rows k q p) large;
     }

@@ -1,8 +1,8 @@
 -- Classes and shifts. Only `at_rest`, `class-law` and `parity-extra` use that a symbol is its own opposite.
-use Rattle.std.proofs.Common.{◌≡◌, ℕ, suc, ◌+◌, ◌-◌, ◌*◌, ◌/◌, ◌%◌, ◌<◌, ◌≤◌, sym, refl, ap, ◌∙◌, subst, ap₂, inl, inr, mod_lt, div_lt_iff_lt_mul, mul_le_mul_left, div_add_mod', arith}
-use native.Mathlib.Nat.{add_sub_cancel_left, mod_add_mod}
+use Rattle.std.proofs.Common.{◌≡◌, ℕ, suc, ◌+◌, ◌-◌, ◌*◌, ◌/◌, ◌%◌, ◌<◌, ◌≤◌, sym, refl, ap, ◌∙◌, subst, ap₂, inl, inr, mod-lt, div-lt_iff_lt-mul, mul-le-mul_left, div-add-mod', arith}
+use native.Mathlib.Nat.{add-sub_cancel_left, mod-add-mod}
 use lib.Arith.{digits_lt, digits_div, digits_mod}
-use Rattle.std.proofs.lemmas.Bool.{cases_lt, lt_ltb, le_ltb}
+use Rattle.std.proofs.lemmas.Bool.{cases_lt, lt-ltb, le-ltb}
 use Rattle.ring.specs.Sums.{BooleanGroup, sum_to}
 use Rattle.ring.specs.Cyclic.{class_total, symbol_at, Covers, shifted, shifted_sum}
 use Rattle.ring.specs.Laws.{ShiftsKeepClasses, ClassesSumToNone, ParityObeysClassSums}
@@ -12,9 +12,9 @@ use Rattle.ring.proofs.Residues.{mod_block, mod_class}
 pub keeps_classes : ShiftsKeepClasses
 keeps_classes b t s x y e =
     mod_class (suc b) t (x + z)
-    ∙ sym (mod_add_mod x t z)
+    ∙ sym (mod-add-mod x t z)
     ∙ ap (λ u. (u + z) % t) e
-    ∙ mod_add_mod y t z
+    ∙ mod-add-mod y t z
     ∙ sym (mod_class (suc b) t (y + z))
   where
     z : ℕ
@@ -23,14 +23,14 @@ keeps_classes b t s x y e =
 module _ {X : Type 0} (none : X) (plus : X → X → X) (b t : ℕ) where
   pub at_row : (column : ℕ → X) (x : ℕ) → x < b * t → symbol_at none plus b t column x ≡ column x
   unfolding symbol_at
-  at_row column x h = rw (lt_ltb x (b * t) h)
+  at_row column x h = rw (lt-ltb x (b * t) h)
 
   pub at_extra : (column : ℕ → X) (x : ℕ) → b * t ≤ x → symbol_at none plus b t column x ≡ class_total none plus b t column (x - b * t)
   unfolding symbol_at
-  at_extra column x h = rw (le_ltb x (b * t) h)
+  at_extra column x h = rw (le-ltb x (b * t) h)
 
   pub at_class : (column : ℕ → X) (m : ℕ) → symbol_at none plus b t column (b * t + m) ≡ class_total none plus b t column m
-  at_class column m = at_extra column (b * t + m) (omega arith) ∙ rw add_sub_cancel_left
+  at_class column m = at_extra column (b * t + m) (omega arith) ∙ rw add-sub_cancel_left
 
   -- the rows that an extra symbol takes in
   class_covers : (x a : ℕ) → b * t ≤ x → x < suc b * t → a < b → Covers b t x (a * t + (x - b * t))
@@ -55,16 +55,16 @@ module _ {X : Type 0} {none : X} {plus : X → X → X} (L : BooleanGroup none p
       ap A (sym place) ∙ sum_rest L b (row / t) (λ a. A (a * t + row % t)) (λ a. B (a * t + row % t)) in_block others sums ∙ ap B place
     where
       some : 0 < t
-      some = elim (cases_lt 0 t) [ inl k ↦ k | inr k ↦ omega (arith, mul_le_mul_left b k) ]
+      some = elim (cases_lt 0 t) [ inl k ↦ k | inr k ↦ omega (arith, mul-le-mul_left b k) ]
 
       place : row / t * t + row % t ≡ row
-      place = omega (arith, div_add_mod' row t)
+      place = omega (arith, div-add-mod' row t)
 
       in_block : row / t < b
-      in_block = (div_lt_iff_lt_mul some).1 low
+      in_block = (div-lt_iff_lt-mul some).1 low
 
       others : (a : ℕ) → a < b → (a ≡ row / t → ⊥) → A (a * t + row % t) ≡ B (a * t + row % t)
-      others a k ne = same (a * t + row % t) (digits_lt k (mod_lt row some)) (λ z. ne (sym (digits_div a (mod_lt row some)) ∙ ap (λ y. y / t) z))
+      others a k ne = same (a * t + row % t) (digits_lt k (mod-lt row some)) (λ z. ne (sym (digits_div a (mod-lt row some)) ∙ ap (λ y. y / t) z))
 
       sums : class_total none plus b t A (row % t) ≡ class_total none plus b t B (row % t)
       sums = sym (at_class none plus b t A (row % t)) ∙ ap (symbol_at none plus b t A) (sym e) ∙ same_at ∙ ap (symbol_at none plus b t B) e ∙ at_class none plus b t B (row % t)
@@ -79,15 +79,15 @@ module _ {X : Type 0} {none : X} {plus : X → X → X} (L : BooleanGroup none p
   class_from : (column : ℕ → X) (z m : ℕ) → 0 < t → sum_to none plus (suc b) (λ a. symbol_at none plus b t column ((a * t + m + z) % (suc b * t))) ≡ none
   class_from column z m ht =
       sum_cong L.monoid (suc b) (λ a. symbol_at none plus b t column ((a * t + m + z) % (suc b * t))) (λ a. G ((a + (m + z) / t) % suc b))
-      (λ a k. ap (symbol_at none plus b t column) (ap (λ x. x % (suc b * t)) (place a) ∙ mod_block (suc b) t (a + (m + z) / t) ((m + z) % t) (omega arith) (mod_lt (m + z) ht)))
+      (λ a k. ap (symbol_at none plus b t column) (ap (λ x. x % (suc b * t)) (place a) ∙ mod_block (suc b) t (a + (m + z) / t) ((m + z) % t) (omega arith) (mod-lt (m + z) ht)))
       ∙ sum_rot L.monoid (suc b) ((m + z) / t) G
-      ∙ class_law column ((m + z) % t) (mod_lt (m + z) ht)
+      ∙ class_law column ((m + z) % t) (mod-lt (m + z) ht)
     where
       G : ℕ → X
       G a = symbol_at none plus b t column (a * t + (m + z) % t)
 
       place : (a : ℕ) → a * t + m + z ≡ (a + (m + z) / t) * t + (m + z) % t
-      place a = omega (arith, div_add_mod' (m + z) t)
+      place a = omega (arith, div-add-mod' (m + z) t)
 
   parity_class : (k : ℕ) (columns : ℕ → ℕ → X) (shift : ℕ → ℕ) (m : ℕ) → 0 < t → sum_to none plus (suc b) (λ a. shifted_sum none plus b t k columns shift (a * t + m)) ≡ none
   unfolding shifted_sum

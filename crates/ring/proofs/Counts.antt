@@ -1,23 +1,23 @@
 -- Sums of numbers, and how many numbers pass a test.
-use Rattle.std.proofs.Common.{◌≡◌, ℕ, zero, suc, ◌+◌, ◌-◌, ◌*◌, ◌%◌, ◌^◌, ◌<◌, ◌≤◌, Bool, false, cond, ◌&&◌, ◌||◌, ltb, leb, sym, refl, ap, ◌∙◌, subst, ap₂, add_zero, add_assoc, suc_mul, add_comm, pow_suc, mul_zero, zero_mul, arith}
-use native.Mathlib.Nat.{pow_zero}
+use Rattle.std.proofs.Common.{◌≡◌, ℕ, zero, suc, ◌+◌, ◌-◌, ◌*◌, ◌%◌, ◌^◌, ◌<◌, ◌≤◌, Bool, false, cond, ◌&&◌, ◌||◌, ltb, leb, sym, refl, ap, ◌∙◌, subst, ap₂, add-zero, add_assoc, suc-mul, add_comm, pow-suc, mul-zero, zero-mul, arith}
+use native.Mathlib.Nat.{pow-zero}
 use lib.Arith.{digits_mod}
 use Rattle.std.proofs.lemmas.Bool.Decides.{leb_tells}
 use Rattle.ring.specs.Sums.{CommutativeMonoid, sum_to, count}
 use Rattle.ring.proofs.Sums.{sum_same, sum_add, sum_split, sum_first}
 
 pub numbers : CommutativeMonoid 0 ◌+◌
-numbers = record { assoc = add_assoc; comm = add_comm; unit = add_zero }
+numbers = record { assoc = add_assoc; comm = add_comm; unit = add-zero }
 
 abbrev pub total : ℕ → (ℕ → ℕ) → ℕ
 total n F = sum_to 0 ◌+◌ n F
 
 pub total_const : (n x : ℕ) → total n (λ a. x) ≡ n * x
-total_const zero x = sym (zero_mul x)
+total_const zero x = sym (zero-mul x)
 total_const (suc n) x = omega (arith, total_const n x)
 
 pub total_times : (m n : ℕ) (F : ℕ → ℕ) → total n (λ a. m * F a) ≡ m * total n F
-total_times m zero F = sym (mul_zero m)
+total_times m zero F = sym (mul-zero m)
 total_times m (suc n) F = omega (arith, total_times m n F)
 
 -- the same, counted from the other end
@@ -33,7 +33,7 @@ pub count_same : (n : ℕ) (P Q : ℕ → Bool) → ((a : ℕ) → a < n → P a
 count_same n P Q h = sum_same 0 ◌+◌ n _ _ (λ a k. ap (λ b. cond b 1 0) (h a k))
 
 pub count_none : (n : ℕ) → count n (λ a. false) ≡ 0
-count_none n = total_const n 0 ∙ mul_zero n
+count_none n = total_const n 0 ∙ mul-zero n
 
 -- tests that are never passed together
 pub count_or : (n : ℕ) (P Q : ℕ → Bool) → ((a : ℕ) → a < n → (P a && Q a) ≡ false) → count n (λ a. P a || Q a) ≡ count n P + count n Q
@@ -44,9 +44,9 @@ count_or n P Q apart = sum_same 0 ◌+◌ n _ _ (λ a h. one (P a) (Q a) (apart 
 
 -- a test of the residue, over m whole rounds
 pub count_rounds : (m Q : ℕ) (P : ℕ → Bool) → count (m * Q) (λ x. P (x % Q)) ≡ m * count Q P
-count_rounds zero Q P = simp zero_mul
+count_rounds zero Q P = simp zero-mul
 count_rounds (suc m) Q P =
-    rw (suc_mul m Q)
+    rw (suc-mul m Q)
     (sum_split numbers (m * Q) Q (λ x. cond (P (x % Q)) 1 0)
     ∙ ap₂ ◌+◌ (count_rounds m Q P) (sum_same 0 ◌+◌ Q (λ a. cond (P ((m * Q + a) % Q)) 1 0) (λ a. cond (P a) 1 0) (λ a h. ap (λ x. cond (P x) 1 0) (digits_mod m h)))
     ∙ omega arith)
@@ -62,8 +62,8 @@ count_below zero h = omega arith
 count_below (suc n) h = let e = count_below n h in grind (arith, leb_tells)
 
 powers_up : (q n : ℕ) → total n (λ j. q * suc q ^ j) + 1 ≡ suc q ^ n
-powers_up q zero = rw pow_zero
-powers_up q (suc n) = omega (arith, powers_up q n, pow_suc (suc q) n)
+powers_up q zero = rw pow-zero
+powers_up q (suc n) = omega (arith, powers_up q n, pow-suc (suc q) n)
 
 -- a geometric sum
 pub powers : (q n : ℕ) → 1 ≤ q → total n (λ j. (q - 1) * q ^ j) ≡ q ^ n - 1

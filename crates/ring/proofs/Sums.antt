@@ -1,7 +1,7 @@
 -- Finite sums: pointwise, side by side, one after another, and in a rotated order.
-use Rattle.std.proofs.Common.{◌≡◌, ℕ, zero, suc, ◌+◌, ◌%◌, ◌<◌, Bool, true, false, cond, eqb, sym, refl, ap, ◌∙◌, ap₂, inl, inr, add_zero, add_suc, mod_eq_of_lt, arith}
-use native.Mathlib.Nat.{mod_self, mod_add_mod}
-use Rattle.std.proofs.lemmas.Bool.{cases_eq, eq_eqb, ne_eqb}
+use Rattle.std.proofs.Common.{◌≡◌, ℕ, zero, suc, ◌+◌, ◌%◌, ◌<◌, Bool, true, false, cond, eqb, sym, refl, ap, ◌∙◌, ap₂, inl, inr, add-zero, add-suc, mod-eq_of_lt, arith}
+use native.Mathlib.Nat.{mod_self, mod-add-mod}
+use Rattle.std.proofs.lemmas.Bool.{cases_eq, eq-eqb, ne_eqb}
 use Rattle.ring.specs.Sums.{CommutativeMonoid, BooleanGroup, sum_to}
 
 -- pointwise equal below n; this wants no law
@@ -28,8 +28,8 @@ module _ {X : Type 0} {none : X} {plus : X → X → X} (L : CommutativeMonoid n
   sum_add (suc n) F G = rw (sum_add n F G) (simp (L.assoc, L.comm, left_comm))
 
   pub sum_split : (m n : ℕ) (F : ℕ → X) → sum_to none plus (m + n) F ≡ plus (sum_to none plus m F) (sum_to none plus n (λ a. F (m + a)))
-  sum_split m zero F = rw add_zero (sym (L.unit _))
-  sum_split m (suc n) F = rw (add_suc, sum_split m n F) (L.assoc _ _ _)
+  sum_split m zero F = rw add-zero (sym (L.unit _))
+  sum_split m (suc n) F = rw (add-suc, sum_split m n F) (L.assoc _ _ _)
 
   -- the first one taken off
   pub sum_first : (n : ℕ) (F : ℕ → X) → sum_to none plus (suc n) F ≡ plus (F 0) (sum_to none plus n (λ a. F (suc a)))
@@ -44,7 +44,7 @@ module _ {X : Type 0} {none : X} {plus : X → X → X} (L : CommutativeMonoid n
   rot_one : (n : ℕ) (F : ℕ → X) → sum_to none plus (suc n) (λ a. F ((a + 1) % suc n)) ≡ sum_to none plus (suc n) F
   rot_one n F =
       ap₂ plus
-      (sum_cong n (λ a. F ((a + 1) % suc n)) (λ a. F (suc a)) (λ a h. ap F (mod_eq_of_lt (omega arith) ∙ omega arith)))
+      (sum_cong n (λ a. F ((a + 1) % suc n)) (λ a. F (suc a)) (λ a h. ap F (mod-eq_of_lt (omega arith) ∙ omega arith)))
       (ap F (ap (λ x. x % suc n) (omega arith) ∙ mod_self (suc n)))
       ∙ L.comm _ _
       ∙ sym (sum_first n F)
@@ -52,9 +52,9 @@ module _ {X : Type 0} {none : X} {plus : X → X → X} (L : CommutativeMonoid n
   -- and by any number
   pub sum_rot : (p c : ℕ) (F : ℕ → X) → sum_to none plus p (λ a. F ((a + c) % p)) ≡ sum_to none plus p F
   sum_rot zero c F = refl
-  sum_rot (suc n) zero F = sum_cong (suc n) (λ a. F ((a + 0) % suc n)) F (λ a h. ap F (mod_eq_of_lt (omega arith) ∙ omega arith))
+  sum_rot (suc n) zero F = sum_cong (suc n) (λ a. F ((a + 0) % suc n)) F (λ a h. ap F (mod-eq_of_lt (omega arith) ∙ omega arith))
   sum_rot (suc n) (suc c) F =
-      sum_cong (suc n) (λ a. F ((a + suc c) % suc n)) (λ a. F (((a + 1) % suc n + c) % suc n)) (λ a h. ap F (ap (λ x. x % suc n) (omega arith) ∙ sym (mod_add_mod (a + 1) (suc n) c)))
+      sum_cong (suc n) (λ a. F ((a + suc c) % suc n)) (λ a. F (((a + 1) % suc n + c) % suc n)) (λ a h. ap F (ap (λ x. x % suc n) (omega arith) ∙ sym (mod-add-mod (a + 1) (suc n) c)))
       ∙ rot_one n (λ a. F ((a + c) % suc n))
       ∙ sum_rot (suc n) c F
 
@@ -71,7 +71,7 @@ module _ {X : Type 0} {none : X} {plus : X → X → X} (L : BooleanGroup none p
   sum_one zero i F h = absurd (omega arith)
   sum_one (suc n) i F h =
       elim (cases_eq n i) [
-        | inl e ↦ ap₂ plus (sum_same none plus n _ (λ a. none) (λ a k. rw (ne_eqb a i (λ z. omega arith))) ∙ sum_none L.monoid n) (rw (eq_eqb n i e) (ap F e)) ∙ unit_l L.monoid (F i)
+        | inl e ↦ ap₂ plus (sum_same none plus n _ (λ a. none) (λ a k. rw (ne_eqb a i (λ z. omega arith))) ∙ sum_none L.monoid n) (rw (eq-eqb n i e) (ap F e)) ∙ unit_l L.monoid (F i)
         | inr e ↦ ap₂ plus (sum_one n i F (omega arith)) (rw (ne_eqb n i e)) ∙ L.monoid.unit (F i)
       ]
 
@@ -91,4 +91,4 @@ module _ {X : Type 0} {none : X} {plus : X → X → X} (L : BooleanGroup none p
   sum_rest n i F G h same e = sym (sum_but n i F h) ∙ ap₂ plus e (sum_same none plus n _ _ others) ∙ sum_but n i G h
     where
       others : (a : ℕ) → a < n → cond (eqb a i) none (F a) ≡ cond (eqb a i) none (G a)
-      others a k = elim (cases_eq a i) [ inl z ↦ rw (eq_eqb a i z) | inr z ↦ rw (ne_eqb a i z) (same a k z) ]
+      others a k = elim (cases_eq a i) [ inl z ↦ rw (eq-eqb a i z) | inr z ↦ rw (ne_eqb a i z) (same a k z) ]

@@ -1,7 +1,7 @@
 -- A run grows by one call, and what holds of each call holds of the run.
 use Rattle.std.proofs.Common.{◌≡◌, ℕ, zero, suc, ◌+◌, ◌<◌, ◌≤◌, cond, leb, List, length, get_or, set, Some, None, Option, sym, refl, subst, inl, inr, arith}
-use Rattle.std.proofs.lemmas.Bool.{cases_lt, le_leb, lt_leb}
-use Rattle.std.proofs.lemmas.List.{get_or_set_same, get_or_set_other}
+use Rattle.std.proofs.lemmas.Bool.{cases_lt, le-leb, lt-leb}
+use Rattle.std.proofs.lemmas.List.{get_or-set_same, get_or-set_other}
 use Rattle.code.specs.declared.shape.Shape.{Shape}
 use Rattle.store.specs.View.{View}
 use Rattle.array.specs.Book.{Book, new_book, Agrees}
@@ -25,15 +25,15 @@ module _ {S X : Type 0} (view : S → View X) (none : X) (plus : X → X → X) 
   pub chain_more : (answers : List (Answer X)) (n : ℕ) (a m z : State S X) (r : Answer X) → n < length answers → Chain answers n a m → Stepped view none plus s (call_at calls n) m r z → Chain (set answers n r) (n + 1) a z
   chain_more answers n a m z r room C one = record {
     state = λ i. cond (leb i n) (C.state i) z;
-    begins = rw (le_leb 0 n (omega arith)) C.begins;
-    ends = rw (lt_leb (n + 1) n (omega arith));
+    begins = rw (le-leb 0 n (omega arith)) C.begins;
+    ends = rw (lt-leb (n + 1) n (omega arith));
     steps = λ i h. elim (cases_lt i n) [
       | inl below ↦
-          rw (le_leb i n (omega arith), le_leb (i + 1) n (omega arith), get_or_set_other answers n i r Unmade (λ e. omega arith)) (C.steps i below)
+          rw (le-leb i n (omega arith), le-leb (i + 1) n (omega arith), get_or-set_other answers n i r Unmade (λ e. omega arith)) (C.steps i below)
       | inr past ↦
           let e : n ≡ i = omega arith in
           subst (λ j. Stepped view none plus s (call_at calls j) (cond (leb j n) (C.state j) z) (answer_at (set answers n r) j) (cond (leb (j + 1) n) (C.state (j + 1)) z)) e
-          (rw (le_leb n n (omega arith), lt_leb (n + 1) n (omega arith), get_or_set_same answers n r Unmade room)
+          (rw (le-leb n n (omega arith), lt-leb (n + 1) n (omega arith), get_or-set_same answers n r Unmade room)
           (subst (λ t. Stepped view none plus s (call_at calls n) t r z) (sym C.ends) one))
     ];
   }

@@ -1,5 +1,5 @@
 -- A rule's numbers are its shape's.
-use Rattle.std.proofs.Common.{◌≡◌, ℕ, suc, ◌+◌, ◌-◌, ◌*◌, ◌<◌, ◌≤◌, List, get_or, sym, ap, ◌∙◌, ap₂, mul_le_mul_right, arith}
+use Rattle.std.proofs.Common.{◌≡◌, ℕ, suc, ◌+◌, ◌-◌, ◌*◌, ◌<◌, ◌≤◌, List, get_or, sym, ap, ◌∙◌, ap₂, mul-le-mul_right, arith}
 use Rattle.ring.specs.Cyclic.{symbol_at, shifted}
 use Rattle.code.specs.Shapes.{classes_of, rows_of, positions_of, shift_of}
 use Rattle.code.specs.Parities.{term_of}
@@ -17,7 +17,7 @@ module _ (u : ParityRule) where
   -- the rows of data column i + 1 lie among those of all data columns
   pub column_fits : (i : ℕ) → i < u.shape.k → i * u.rows + (u.shape.p - 1) * u.classes ≤ u.shape.k * rows_of u.shape
   column_fits i h =
-      let step : (i + 1) * rows_of u.shape ≤ u.shape.k * rows_of u.shape = mul_le_mul_right (rows_of u.shape) (omega arith) in
+      let step : (i + 1) * rows_of u.shape ≤ u.shape.k * rows_of u.shape = mul-le-mul_right (rows_of u.shape) (omega arith) in
       rw (u.rows_are, u.classes_are) (omega arith)
 
   pub ring : suc (u.shape.p - 1) * u.classes ≡ u.positions

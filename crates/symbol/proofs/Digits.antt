@@ -1,6 +1,6 @@
 -- Digits and the bytes that they stand for: lengths, there and back, and one more pair.
-use Rattle.std.proofs.Common.{◌≡◌, ℕ, zero, suc, ◌+◌, ◌*◌, ◌/◌, ◌%◌, ◌<◌, ◌≤◌, true, List, [], ◌∷◌, ◌++◌, length, get_or, take, drop, set, refl, ap, ◌∙◌, arith, length_set}
-use Rattle.std.proofs.lemmas.List.{append_assoc, append_nil, drop_all, drop_more, take_all, take_more_set}
+use Rattle.std.proofs.Common.{◌≡◌, ℕ, zero, suc, ◌+◌, ◌*◌, ◌/◌, ◌%◌, ◌<◌, ◌≤◌, true, List, [], ◌∷◌, ◌++◌, length, get_or, take, drop, set, refl, ap, ◌∙◌, arith, length-set}
+use Rattle.std.proofs.lemmas.List.{append_assoc, append-nil, drop_all, drop_more, take_all, take_more_set}
 use Rattle.std.proofs.lemmas.Bool.Decides.{nat_tests}
 use Rattle.symbol.specs.Hex.{digit_of, is_digit, worth, all_digits, is_hex, hex, unhex, Octets}
 
@@ -104,9 +104,9 @@ pub hex_more : (bs s : List ℕ) (i a b : ℕ) → i < length bs → 2 * i + 1 <
 hex_more bs s i a b l h p q =
     let e : 2 * (i + 1) ≡ 2 * i + 1 + 1 = omega arith in
     let before : 2 * i < length s = omega arith in
-    let after : 2 * i + 1 < length (set s (2 * i) a) = simp length_set h in
+    let after : 2 * i + 1 < length (set s (2 * i) a) = simp length-set h in
     rw (e, drop_more bs i 0 l, take_more_set, take_more_set, p, q) (simp append_assoc)
 
 -- nothing is left
 pub front_all : (F : List ℕ → List ℕ) (s t : List ℕ) (m n : ℕ) → F [] ≡ [] → length s ≤ m → length t ≤ n → take m s ++ F (drop n t) ≡ s
-front_all F s t m n e h l = rw (take_all m s h, drop_all n t l, e) (append_nil s)
+front_all F s t m n e h l = rw (take_all m s h, drop_all n t l, e) (append-nil s)

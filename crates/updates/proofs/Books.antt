@@ -1,6 +1,6 @@
 -- Puts and gets keep the book.
 use Rattle.std.proofs.Common.{◌≡◌, ℕ, ◌+◌, ◌-◌, ◌<◌, ◌≤◌, Bool, true, false, cond, not, ◌&&◌, ◌||◌, eqb, ltb, leb, is_ok, Some, None, Ok, Err, Option, Result, sym, refl, ap, ◌∙◌, subst, ap₂, inl, inr, arith}
-use Rattle.std.proofs.lemmas.Bool.{cases_lt, cases_eq, eq_eqb, ne_eqb, le_leb, lt_leb, lt_ltb, le_ltb}
+use Rattle.std.proofs.lemmas.Bool.{cases_lt, cases_eq, eq-eqb, ne_eqb, le-leb, lt-leb, lt-ltb, le-ltb}
 use Rattle.std.proofs.lemmas.Bool.Decides.{nat_tests}
 use Rattle.ring.specs.Sums.{BooleanGroup}
 use Rattle.ring.proofs.Sums.{self_l}
@@ -37,7 +37,7 @@ placed s g c row h = record { fit = grind (arith, nat_tests); one = grind (arith
 module _ {X : Type 0} (none : X) (plus : X → X → X) (s : Shape) where
   -- an accepted get
   pub got : {S : Type 0} (view : S → View X) (a z : S) (c row : ℕ) (r : Result X Refusal) → place_refusal s (view a) c row ≡ None → Stepped (λ answer. Reads view a c row answer z) r → Gets view s a c row r z × Keeps none plus s looks (is_ok r) (view a) (view z) × TellsTable none plus s (view a) c row r
-  got view a z c row (Ok x) h R = ((h, R.2, R.3), read_on none plus s true 1 (view a) (view z) R.3, λ b A table e. R.2 ∙ A.symbols table e c row (P.one, omega (arith, P.last, wide s (view a) P.fit), omega (arith, P.low, long s (view a) P.fit)) P.present ∙ rw (le_leb c s.k P.last))
+  got view a z c row (Ok x) h R = ((h, R.2, R.3), read_on none plus s true 1 (view a) (view z) R.3, λ b A table e. R.2 ∙ A.symbols table e c row (P.one, omega (arith, P.last, wide s (view a) P.fit), omega (arith, P.low, long s (view a) P.fit)) P.present ∙ rw (le-leb c s.k P.last))
     where
       P : Place s (view a) c row
       P = placed s (view a) c row h
@@ -57,28 +57,28 @@ module _ {X : Type 0} (none : X) (plus : X → X → X) (s : Shape) where
 
     module _ (T : ℕ → ℕ → X) (same : (d y : ℕ) → Inside g d y → g.lost d ≡ false → g.at d y ≡ built none plus s T d y) where
       old : g.at c row ≡ T c row
-      old = same c row (P.one, omega (arith, P.last, wide s g P.fit), omega (arith, P.low, long s g P.fit)) P.present ∙ rw (le_leb c s.k P.last)
+      old = same c row (P.one, omega (arith, P.last, wide s g P.fit), omega (arith, P.low, long s g P.fit)) P.present ∙ rw (le-leb c s.k P.last)
 
       of_data : (d y : ℕ) → Inside g d y → g.lost d ≡ false → d ≤ s.k → put_symbols plus s g c row x d y ≡ built none plus s (with_symbol c row x T) d y
-      of_data d y inside present low = rw (le_ltb s.k d low, le_leb d s.k low) (ap (λ z. cond (eqb d c && eqb y row) x z) (same d y inside present ∙ rw (le_leb d s.k low)))
+      of_data d y inside present low = rw (le-ltb s.k d low, le-leb d s.k low) (ap (λ z. cond (eqb d c && eqb y row) x z) (same d y inside present ∙ rw (le-leb d s.k low)))
 
       changed : (j y : ℕ) → 1 ≤ j → j ≤ parities_of s → y < rows_of s → parity_of none plus s (with_symbol c row x T) j y ≡ plus (parity_of none plus s T j y) (cond (takes_in s j c row y) (plus (T c row) x) none)
       changed j y one last low =
           parity_changed L.monoid s T (with_symbol c row x T) c row (plus (T c row) x) P.one P.last P.low
-          (rw (eq_eqb c c refl, eq_eqb row row refl) (sym (self_l L (T c row) x)))
+          (rw (eq-eqb c c refl, eq-eqb row row refl) (sym (self_l L (T c row) x)))
           (λ d z d₁ d₂ k ne. elsewhere d z ne)
           j y one last (omega (arith, positions_are s))
         where
           elsewhere : (d z : ℕ) → ((d ≡ c) × (z ≡ row) → ⊥) → with_symbol c row x T d z ≡ T d z
-          elsewhere d z ne = elim (cases_eq d c) [ inl e ↦ elim (cases_eq z row) [ inl f ↦ absurd (ne (e, f)) | inr f ↦ rw (eq_eqb d c e, ne_eqb z row f) ] | inr e ↦ rw (ne_eqb d c e) ]
+          elsewhere d z ne = elim (cases_eq d c) [ inl e ↦ elim (cases_eq z row) [ inl f ↦ absurd (ne (e, f)) | inr f ↦ rw (eq-eqb d c e, ne_eqb z row f) ] | inr e ↦ rw (ne_eqb d c e) ]
 
       of_parity : (d y : ℕ) → Inside g d y → g.lost d ≡ false → s.k < d → put_symbols plus s g c row x d y ≡ built none plus s (with_symbol c row x T) d y
       of_parity d y inside present past =
-          rw (lt_ltb s.k d past, present, lt_leb d s.k past, ne_eqb d c (λ e. omega (arith, P.last)))
+          rw (lt-ltb s.k d past, present, lt-leb d s.k past, ne_eqb d c (λ e. omega (arith, P.last)))
           (split (takes_in s (d - s.k) c row y) ∙ sym (changed (d - s.k) y (omega arith) (omega (arith, inside.1, wide s g P.fit)) (omega (arith, inside.2, long s g P.fit))))
         where
           here : g.at d y ≡ parity_of none plus s T (d - s.k) y
-          here = same d y inside present ∙ rw (lt_leb d s.k past)
+          here = same d y inside present ∙ rw (lt-leb d s.k past)
 
           split : (b : Bool) → cond b (plus (g.at d y) (plus (g.at c row) x)) (g.at d y) ≡ plus (parity_of none plus s T (d - s.k) y) (cond b (plus (T c row) x) none)
           split true = ap₂ plus here (ap (λ o. plus o x) old)
@@ -87,7 +87,7 @@ module _ {X : Type 0} (none : X) (plus : X → X → X) (s : Shape) where
       pub follows : (d y : ℕ) → Inside g d y → g.lost d ≡ false → h.at d y ≡ built none plus s (with_symbol c row x T) d y
       follows d y inside present = V.symbols d y inside ∙ elim (cases_lt s.k d) [ inl past ↦ of_parity d y inside present past | inr low ↦ of_data d y inside present low ]
 
-    table_was : (old_table : Option (ℕ → ℕ → X)) (T : ℕ → ℕ → X) → put_in c row x old_table ≡ Some T → (T₀ : ℕ → ℕ → X) × (old_table ≡ Some T₀) × (with_symbol c row x T₀ ≡ T)
+    table_was : (old-table : Option (ℕ → ℕ → X)) (T : ℕ → ℕ → X) → put_in c row x old-table ≡ Some T → (T₀ : ℕ → ℕ → X) × (old-table ≡ Some T₀) × (with_symbol c row x T₀ ≡ T)
     table_was (Some T₀) T e = (T₀, refl, cc)
     table_was None T e = absurd (let z : ◌≡◌ {A = ℕ} 0 1 = cc in omega arith)
 

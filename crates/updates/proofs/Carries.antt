@@ -1,7 +1,7 @@
 -- How a change goes into the parities, one position, one parity, one turn of the loop at a time.
-use Rattle.std.proofs.Common.{◌≡◌, ℕ, zero, suc, ◌+◌, ◌-◌, ◌*◌, ◌%◌, ◌^◌, ◌<◌, ◌≤◌, Bool, true, false, cond, not, ◌&&◌, ◌||◌, eqb, ltb, leb, Some, None, Option, sym, refl, ap, ◌∙◌, subst, ap₂, inl, inr, add_assoc, mod_lt, mod_eq_of_lt, add_one, arith}
-use native.Mathlib.Nat.{mod_add_mod}
-use Rattle.std.proofs.lemmas.Bool.{cases_eq, eq_eqb, ne_eqb}
+use Rattle.std.proofs.Common.{◌≡◌, ℕ, zero, suc, ◌+◌, ◌-◌, ◌*◌, ◌%◌, ◌^◌, ◌<◌, ◌≤◌, Bool, true, false, cond, not, ◌&&◌, ◌||◌, eqb, ltb, leb, Some, None, Option, sym, refl, ap, ◌∙◌, subst, ap₂, inl, inr, add_assoc, mod-lt, mod-eq_of_lt, add-one, arith}
+use native.Mathlib.Nat.{mod-add-mod}
+use Rattle.std.proofs.lemmas.Bool.{cases_eq, eq-eqb, ne_eqb}
 use Rattle.std.proofs.lemmas.Bool.Decides.{nat_tests}
 use Rattle.ring.specs.Sums.{sum_to, count}
 use Rattle.ring.proofs.Counts.{count_same, count_none, count_or}
@@ -26,7 +26,7 @@ shift_known s j c x j₁ j₂ c₁ c₂ e = let there : is_shifted s j c ≡ tru
 
 module _ (s : Shape) (j c row : ℕ) (j₁ : 1 ≤ j) (j₂ : j ≤ parities_of s) (c₁ : 1 ≤ c) (c₂ : c ≤ s.k) (low : row < rows_of s) where
   class_low : row % classes_of s < classes_of s
-  class_low = mod_lt row (omega (arith, classes_pos s))
+  class_low = mod-lt row (omega (arith, classes_pos s))
 
   -- the row and the extra symbol of its class never go to one position
   pub apart : direct s j c row ≡ through_class s j c row → ⊥
@@ -76,7 +76,7 @@ module _ {X : Type 0} (plus : X → X → X) (δ : X) where
     rows = B.rows ∙ A.rows;
     lender = B.lender ∙ A.lender;
     marks = λ d inside. B.marks d (inside.0, subst (λ k. d ≤ k) (sym A.columns) inside.1) ∙ A.marks d inside;
-    meter = B.meter ∙ ap (λ x. (x + n) % 2 ^ 64) A.meter ∙ mod_add_mod (g.meter + m) (2 ^ 64) n ∙ ap (λ x. x % 2 ^ 64) (add_assoc g.meter m n);
+    meter = B.meter ∙ ap (λ x. (x + n) % 2 ^ 64) A.meter ∙ mod-add-mod (g.meter + m) (2 ^ 64) n ∙ ap (λ x. x % 2 ^ 64) (add_assoc g.meter m n);
     symbols = λ d y inside. pick (P d y) (Q d y) (R d y) (g.at d y) (h.at d y) (i.at d y) (way d y inside).0 (way d y inside).1 (A.symbols d y inside) (B.symbols d y (inside.0, subst (λ k. d ≤ k) (sym A.columns) inside.1, subst (λ k. y < k) (sym A.rows) inside.2));
   }
     where
@@ -104,7 +104,7 @@ module _ {X : Type 0} (plus : X → X → X) (δ : X) where
     rows = refl;
     lender = refl;
     marks = λ d inside. refl;
-    meter = sym (mod_eq_of_lt (omega arith) ∙ omega arith);
+    meter = sym (mod-eq_of_lt (omega arith) ∙ omega arith);
     symbols = λ d y inside. sym (ap (λ (b : Bool). cond b (plus (g.at d y) δ) (g.at d y)) (nowhere d y inside));
   }
 
@@ -115,7 +115,7 @@ module _ {X : Type 0} (plus : X → X → X) (δ : X) where
     pub parity_lost : (n : ℕ) → n ≡ 0 → g.meter < 2 ^ 64 → g.lost (s.k + j) ≡ true → Added plus δ (λ d y. eqb d (s.k + j) && carries s g c row d y) (carried s g c row (s.k + j)) g n g
     parity_lost n e small lost = record {
       reads = e ∙ sym nothing;
-      leaves = leaves_as (λ d y. eqb d (s.k + j) && carries s g c row d y) (λ d y. eqb d (s.k + j) && carries s g c row d y) 0 (carried s g c row (s.k + j)) g g (sym nothing) (λ d y inside. refl) (leaves_none (λ d y. eqb d (s.k + j) && carries s g c row d y) g small (λ d y inside. elim (cases_eq d (s.k + j)) [ inl same ↦ subst (λ x. (eqb x (s.k + j) && carries s g c row x y) ≡ false) (sym same) (rw (eq_eqb (s.k + j) (s.k + j) refl) (never y)) | inr other ↦ rw (ne_eqb d (s.k + j) other) ]));
+      leaves = leaves_as (λ d y. eqb d (s.k + j) && carries s g c row d y) (λ d y. eqb d (s.k + j) && carries s g c row d y) 0 (carried s g c row (s.k + j)) g g (sym nothing) (λ d y inside. refl) (leaves_none (λ d y. eqb d (s.k + j) && carries s g c row d y) g small (λ d y inside. elim (cases_eq d (s.k + j)) [ inl same ↦ subst (λ x. (eqb x (s.k + j) && carries s g c row x y) ≡ false) (sym same) (rw (eq-eqb (s.k + j) (s.k + j) refl) (never y)) | inr other ↦ rw (ne_eqb d (s.k + j) other) ]));
     }
       where
         never : (y : ℕ) → carries s g c row (s.k + j) y ≡ false
@@ -147,7 +147,7 @@ module _ {X : Type 0} (plus : X → X → X) (δ : X) where
         way : (d y : ℕ) → ((eqb d (s.k + j) && carries s g c row d y) ≡ ((eqb d (s.k + j) && eqb y a) || (eqb d (s.k + j) && eqb y b))) × (((eqb d (s.k + j) && eqb y a) && (eqb d (s.k + j) && eqb y b)) ≡ false)
         way d y =
             elim (cases_eq d (s.k + j)) [
-              | inl same ↦ (subst (λ x. (eqb x (s.k + j) && carries s g c row x y) ≡ ((eqb x (s.k + j) && eqb y a) || (eqb x (s.k + j) && eqb y b))) (sym same) (rw (eq_eqb (s.k + j) (s.k + j) refl) (there y)), never_both (eqb d (s.k + j)) y a b differ)
+              | inl same ↦ (subst (λ x. (eqb x (s.k + j) && carries s g c row x y) ≡ ((eqb x (s.k + j) && eqb y a) || (eqb x (s.k + j) && eqb y b))) (sym same) (rw (eq-eqb (s.k + j) (s.k + j) refl) (there y)), never_both (eqb d (s.k + j)) y a b differ)
               | inr other ↦ (rw (ne_eqb d (s.k + j) other), rw (ne_eqb d (s.k + j) other))
             ]
 
@@ -177,7 +177,7 @@ module _ {X : Type 0} (plus : X → X → X) (δ : X) where
       total : sum_to 0 ◌+◌ j (λ a. carried s g c row (s.k + (a + 1))) + carried s h c row (s.k + (j + 1)) ≡ sum_to 0 ◌+◌ (j + 1) (λ a. carried s g c row (s.k + (a + 1)))
       total =
           ap (λ x. sum_to 0 ◌+◌ j (λ a. carried s g c row (s.k + (a + 1))) + x) (count_same (rows_of s) (carries s h c row (s.k + (j + 1))) (carries s g c row (s.k + (j + 1))) (λ y k. marked (s.k + (j + 1)) (omega arith) (omega arith) y))
-          ∙ ap (λ n. sum_to 0 ◌+◌ n (λ a. carried s g c row (s.k + (a + 1)))) (sym (add_one j))
+          ∙ ap (λ n. sum_to 0 ◌+◌ n (λ a. carried s g c row (s.k + (a + 1)))) (sym (add-one j))
 
       way : (d y : ℕ) → Inside g d y → (T d y ≡ (P d y || Q d y)) × ((P d y && Q d y) ≡ false)
       way d y inside = let e = marked d inside.0 (omega (arith, inside.1, wide s g fit)) y in grouped (carries s g c row d y) (carries s h c row d y) e
@@ -212,7 +212,7 @@ put_leaves {X} plus s c row x old δ n g g₁ g₂ h fit c₁ c₂ low eo ed m W
     rows = A.leaves.rows ∙ rows₂;
     lender = A.leaves.lender ∙ W.lender ∙ ap (λ (v : View X). v.lender) m;
     marks = λ d inside. A.leaves.marks d (inside.0, subst (λ k. d ≤ k) (sym columns₂) inside.1) ∙ lost₂ d inside;
-    meter = A.leaves.meter ∙ ap₂ (λ a b. (a + b) % 2 ^ 64) (W.meter ∙ ap (λ (v : View X). v.meter) m) (sums (parities_of s) (λ j k. k)) ∙ mod_add_mod (g.meter + 1) (2 ^ 64) _ ∙ ap (λ a. a % 2 ^ 64) (add_assoc g.meter 1 _);
+    meter = A.leaves.meter ∙ ap₂ (λ a b. (a + b) % 2 ^ 64) (W.meter ∙ ap (λ (v : View X). v.meter) m) (sums (parities_of s) (λ j k. k)) ∙ mod-add-mod (g.meter + 1) (2 ^ 64) _ ∙ ap (λ a. a % 2 ^ 64) (add_assoc g.meter 1 _);
     symbols = λ d y inside. A.leaves.symbols d y (inside.0, subst (λ k. d ≤ k) (sym columns₂) inside.1, subst (λ k. y < k) (sym rows₂) inside.2) ∙ ap (λ (b : Bool). cond b (plus (g₂.at d y) δ) (g₂.at d y)) (same d inside.0 inside.1 y) ∙ split (carries s g c row d y) d y inside refl;
   };
 }
@@ -240,8 +240,8 @@ put_leaves {X} plus s c row x old δ n g g₁ g₂ h fit c₁ c₂ low eo ed m W
     written d y inside =
         elim (cases_eq d c) [
           | inl e ↦ elim (cases_eq y row) [
-            | inl f ↦ ap₂ g₂.at e f ∙ W.here ∙ rw (eq_eqb d c e, eq_eqb y row f)
-            | inr f ↦ elsewhere d y inside (λ z. f z.1) ∙ rw (eq_eqb d c e, ne_eqb y row f)
+            | inl f ↦ ap₂ g₂.at e f ∙ W.here ∙ rw (eq-eqb d c e, eq-eqb y row f)
+            | inr f ↦ elsewhere d y inside (λ z. f z.1) ∙ rw (eq-eqb d c e, ne_eqb y row f)
           ]
           | inr e ↦ elsewhere d y inside (λ z. e z.0) ∙ rw (ne_eqb d c e)
         ]

@@ -4,20 +4,20 @@ use Rattle.array.proofs.Checked.{still_fits}
 use Rattle.audit.proofs.Compares.{matched_more, matched_all}
 use Rattle.audit.proofs.comparing.compare_parities.Goals as goal
 
-pub compare_parity_requires : goal.compare_parity_requires
-compare_parity_requires g c =
+pub compare-parity-requires : goal.compare-parity-requires
+compare-parity-requires g c =
     let s = c.args.shape in
     let view = g.S.ColumnStore.view in
-    let e = c.loop_j.invariant.meter in
+    let e = c.loop-j.invariant.meter in
     record {
-      parity = (omega arith, omega (arith, c.parities_j_end.ensures));
-      fits = still_fits s (view c.args.store.now) (view c.loop_j.store) c.requires.fits (ap (λ (v : View _). v.columns) e) (ap (λ (v : View _). v.rows) e);
-      present = ap (λ (v : View _). v.lost (s.k + (c.loop_j.j + 1))) e ∙ c.requires.present (s.k + (c.loop_j.j + 1)) (omega arith) (omega (arith, c.parities_j_end.ensures));
+      parity = (omega arith, omega (arith, c.parities-j-end.ensures));
+      fits = still_fits s (view c.args.store.now) (view c.loop-j.store) c.requires.fits (ap (λ (v : View _). v.columns) e) (ap (λ (v : View _). v.rows) e);
+      present = ap (λ (v : View _). v.lost (s.k + (c.loop-j.j + 1))) e ∙ c.requires.present (s.k + (c.loop-j.j + 1)) (omega arith) (omega (arith, c.parities-j-end.ensures));
       room = c.requires.room;
     }
 
-pub loop_j_preserved : goal.loop_j_preserved
-loop_j_preserved g c = matched_more _ _ _ _ _ _ _ _ _ c.loop_j.invariant c.in_ok_holds.ensures
+pub loop-j-preserved : goal.loop-j-preserved
+loop-j-preserved g c = matched_more _ _ _ _ _ _ _ _ _ c.loop-j.invariant c.in-ok-holds.ensures
 
 pub returns : goal.returns
-returns g c = matched_all _ _ _ _ _ _ _ _ (omega (arith, c.parities_j_end.ensures)) c.loop_j.invariant
+returns g c = matched_all _ _ _ _ _ _ _ _ (omega (arith, c.parities-j-end.ensures)) c.loop-j.invariant

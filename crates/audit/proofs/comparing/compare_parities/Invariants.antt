@@ -4,8 +4,8 @@ use Rattle.code.specs.Shapes.{rows_of}
 use Rattle.audit.specs.Progress.{Matched}
 use Rattle.audit.proofs.comparing.compare_parities.Given as goal
 
-abbrev pub invariant_loop_j : goal.invariant_loop_j
-invariant_loop_j g l =
+abbrev pub invariant-loop-j : goal.invariant-loop-j
+invariant-loop-j g l =
     let x = g.X.Symbol in
     let s = l.shape in
     Matched (g.S.ColumnStore.view l.initial.store) s.k (rows_of s) l.j (parity_of x.zero x.plus s (symbols_of x.zero (rows_of s) l.cells)) l.holds (g.S.ColumnStore.view l.store)

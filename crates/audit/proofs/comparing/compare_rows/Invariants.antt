@@ -5,8 +5,8 @@ use Rattle.code.specs.Shapes.{rows_of}
 use Rattle.audit.specs.Progress.{Compared}
 use Rattle.audit.proofs.comparing.compare_rows.Given as goal
 
-abbrev pub invariant_loop_row : goal.invariant_loop_row
-invariant_loop_row g l =
+abbrev pub invariant-loop-row : goal.invariant-loop-row
+invariant-loop-row g l =
     let x = g.X.Symbol in
     let s = l.shape in
     Compared (g.S.ColumnStore.view l.initial.store) (s.k + l.parity) l.row (parity_of x.zero x.plus s (symbols_of x.zero (rows_of s) l.cells) l.parity) l.holds (g.S.ColumnStore.view l.store)

@@ -1,4 +1,4 @@
-use Rattle.std.proofs.Common.{◌≡◌, ℕ, ◌*◌, List, length, ap, ◌∙◌, mul_le_mul_right, arith}
+use Rattle.std.proofs.Common.{◌≡◌, ℕ, ◌*◌, List, length, ap, ◌∙◌, mul-le-mul_right, arith}
 use Rattle.code.specs.declared.shape.Shape.{Shape}
 use Rattle.code.specs.Shapes.{columns_of, rows_of}
 use Rattle.frames.specs.Lines.{stride}
@@ -9,14 +9,14 @@ use Rattle.frames.proofs.Stands.{render_passes, render_back, render_there}
 use Rattle.frames.proofs.checks.check.Given as given
 use Rattle.frames.proofs.checks.check.Goals as goal
 
-pub check_lines_requires : goal.check_lines_requires
-check_lines_requires g c =
+pub check-lines-requires : goal.check-lines-requires
+check-lines-requires g c =
     let s = c.args.shape in
     let some = rows_some s in
     let few = columns_few s in
-    let lines = c.columns.result * c.rows_rows.result in
-    let room : length c.args.text.now ≡ lines * stride g.X.Symbol.width = c.if_text_needed.false ∙ ap (λ n. lines * n) c.stride.ensures.is in
-    record { room = omega arith; columns = mul_le_mul_right c.rows_rows.result (omega arith); rows = (omega arith, omega (arith, s.small)) }
+    let lines = c.columns.result * c.rows-rows.result in
+    let room : length c.args.text.now ≡ lines * stride g.X.Symbol.width = c.if-text-needed.false ∙ ap (λ n. lines * n) c.stride.ensures.is in
+    record { room = omega arith; columns = mul-le-mul_right c.rows-rows.result (omega arith); rows = (omega arith, omega (arith, s.small)) }
 
 -- what holds whatever the answer
 faithful : (g : given.Over) (s : Shape) (text : List ℕ) →
@@ -31,12 +31,12 @@ faithful g s text =
       render_there K.zero K.width K.bytes K.symbol M.wide M.back M.there (columns_of s) (rows_of s) text (rows_some s),
     )
 
-pub returns_then_text_needed : goal.returns_then_text_needed
-returns_then_text_needed g c =
+pub returns-then-text-needed : goal.returns-then-text-needed
+returns-then-text-needed g c =
     let f = faithful g c.args.shape c.args.text.now in
-    record { answer = wrong_told _ _ _ _ _ _ c.args.text.now c.columns.ensures c.rows_rows.ensures c.stride.ensures.is c.if_text_needed.true; passes = f.0; back = f.1; there = f.2 }
+    record { answer = wrong_told _ _ _ _ _ _ c.args.text.now c.columns.ensures c.rows-rows.ensures c.stride.ensures.is c.if-text-needed.true; passes = f.0; back = f.1; there = f.2 }
 
 pub returns : goal.returns
 returns g c =
     let f = faithful g c.args.shape c.args.text.now in
-    record { answer = right_told _ _ _ _ _ _ c.args.text.now c.columns.ensures c.rows_rows.ensures c.stride.ensures.is c.if_text_needed.false c.check_lines.result c.check_lines.ensures; passes = f.0; back = f.1; there = f.2 }
+    record { answer = right_told _ _ _ _ _ _ c.args.text.now c.columns.ensures c.rows-rows.ensures c.stride.ensures.is c.if-text-needed.false c.check-lines.result c.check-lines.ensures; passes = f.0; back = f.1; there = f.2 }

@@ -1,12 +1,12 @@
-use Rattle.std.proofs.Common.{◌+◌, ◌*◌, ◌≤◌, mul_le_mul_right, arith, rules}
+use Rattle.std.proofs.Common.{◌+◌, ◌*◌, ◌≤◌, mul-le-mul_right, arith, rules}
 use Rattle.frames.proofs.lines.start.Goals as goal
 
-pub overflow_mul_result : goal.overflow_mul_result
-overflow_mul_result c =
-    let h : (c.args.line + 1) * c.args.stride ≤ c.args.lines * c.args.stride = mul_le_mul_right c.args.stride (omega arith) in
+pub overflow-mul-result : goal.overflow-mul-result
+overflow-mul-result c =
+    let h : (c.args.line + 1) * c.args.stride ≤ c.args.lines * c.args.stride = mul-le-mul_right c.args.stride (omega arith) in
     search rules
 
 pub returns : goal.returns
 returns c =
-    let h : (c.args.line + 1) * c.args.stride ≤ c.args.lines * c.args.stride = mul_le_mul_right c.args.stride (omega arith) in
+    let h : (c.args.line + 1) * c.args.stride ≤ c.args.lines * c.args.stride = mul-le-mul_right c.args.stride (omega arith) in
     search rules

@@ -4,5 +4,5 @@ use Rattle.repair.specs.Lists.{helper}
 use Rattle.array.specs.Lost.{lowest_lost}
 use Rattle.recovery.proofs.quoting.lowest_helper.Given as goal
 
-abbrev pub invariant_loop_c : goal.invariant_loop_c
-invariant_loop_c g l = lowest_lost (λ c. helper l.shape l.lost c && counts_as_lost (g.S.ColumnStore.view l.store) c) l.c ≡ None
+abbrev pub invariant-loop-c : goal.invariant-loop-c
+invariant-loop-c g l = lowest_lost (λ c. helper l.shape l.lost c && counts_as_lost (g.S.ColumnStore.view l.store) c) l.c ≡ None

@@ -7,19 +7,19 @@ use Rattle.array.proofs.Checked.{wide, long}
 use Rattle.recovery.proofs.Recovered.{rebuilt_planned}
 use Rattle.recovery.proofs.rebuilding.rebuild_data.Goals as goal
 
-pub collect_requires : goal.collect_requires
-collect_requires g c =
+pub collect-requires : goal.collect-requires
+collect-requires g c =
     let s = c.args.shape in
     let v = g.S.ColumnStore.view c.args.store.now in
-    let (es, ef) = c.in_Some.ensures in
+    let (es, ef) = c.in-Some.ensures in
     record {
       columns = (omega (arith, c.columns.ensures), omega (arith, c.columns.ensures, wide s v c.requires.fits));
-      rows = (c.rows_rows.ensures ∙ ap rows_of (sym es), omega (arith, c.rows_rows.ensures, long s v c.requires.fits));
-      present = λ d one last helps. c.requires.present d one (omega (arith, c.columns.ensures)) (subst (λ x. helper s x d ≡ true) ef (subst (λ x. helper x c.in_Some.plan.lost d ≡ true) es helps));
+      rows = (c.rows-rows.ensures ∙ ap rows_of (sym es), omega (arith, c.rows-rows.ensures, long s v c.requires.fits));
+      present = λ d one last helps. c.requires.present d one (omega (arith, c.columns.ensures)) (subst (λ x. helper s x d ≡ true) ef (subst (λ x. helper x c.in-Some.plan.lost d ≡ true) es helps));
       room = subst (λ (x : Shape). work_of x ≤ length c.args.work.now) (sym es) c.requires.room;
     }
 
 pub returns : goal.returns
 returns g c =
-    let (es, ef) = c.in_Some.ensures in
-    rebuilt_planned _ _ _ _ _ _ _ _ _ _ _ _ _ _ _ es ef c.columns.ensures c.rows_rows.ensures c.requires.lost.0 c.requires.lost.1 c.requires.fits c.in_ok_count.ensures c.in_ok_restore.ensures c.in_ok_admit.ensures.1 c.clear.ensures
+    let (es, ef) = c.in-Some.ensures in
+    rebuilt_planned _ _ _ _ _ _ _ _ _ _ _ _ _ _ _ es ef c.columns.ensures c.rows-rows.ensures c.requires.lost.0 c.requires.lost.1 c.requires.fits c.in-ok-count.ensures c.in-ok-restore.ensures c.in-ok-admit.ensures.1 c.clear.ensures

@@ -5,14 +5,14 @@ use Rattle.report.specs.Printed.{told}
 use Rattle.report.proofs.Views.{view_of, fitting, told_is}
 use Rattle.report.proofs.call.restore.Goals as goal
 
-pub tell_requires : goal.tell_requires
-tell_requires c =
-    let t = c.over_store.result in
-    let o = c.over_store.ensures in
-    subst (λ (s : Shape). fits s (view_of t) ≡ true) (sym c.open_array.ensures) (fitting c.args.shape c.args.text.now _ t o.memory o.view c.requires)
+pub tell-requires : goal.tell-requires
+tell-requires c =
+    let t = c.over-store.result in
+    let o = c.over-store.ensures in
+    subst (λ (s : Shape). fits s (view_of t) ≡ true) (sym c.open-array.ensures) (fitting c.args.shape c.args.text.now _ t o.memory o.view c.requires)
 
 pub returns : goal.returns
 returns c =
-    let t = c.over_store.result in
-    let o = c.over_store.ensures in
-    subst (λ (out : List ℕ). IfOk c.tell.result (λ r. vec_items r ≡ out)) (ap (λ (s : Shape). told s (view_of t).lost (view_of t).at) c.open_array.ensures ∙ told_is c.args.shape c.args.text.now _ t o.memory o.view c.requires) c.tell.ensures
+    let t = c.over-store.result in
+    let o = c.over-store.ensures in
+    subst (λ (out : List ℕ). IfOk c.tell.result (λ r. vec_items r ≡ out)) (ap (λ (s : Shape). told s (view_of t).lost (view_of t).at) c.open-array.ensures ∙ told_is c.args.shape c.args.text.now _ t o.memory o.view c.requires) c.tell.ensures

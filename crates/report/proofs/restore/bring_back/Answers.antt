@@ -1,5 +1,5 @@
 use Rattle.std.proofs.Common.{◌≡◌, ◌*◌, length, vec_items, ap, ◌∙◌, ap₂, arith}
-use lib.ListN.{length_replicate}
+use lib.ListN.{length-replicate}
 use Rattle.array.specs.Checks.{work_of}
 use Rattle.recovery.specs.Rebuild.{count_of}
 use Rattle.recovery.proofs.Accepted.{accepted}
@@ -7,21 +7,21 @@ use Rattle.report.proofs.Counts.{allowed, columns_low, count_low}
 use Rattle.report.proofs.Rows.{brought}
 use Rattle.report.proofs.restore.bring_back.Goals as goal
 
-pub spend_requires : goal.spend_requires
-spend_requires g c =
+pub spend-requires : goal.spend-requires
+spend-requires g c =
     let s = c.args.array.now.shape in
     let v = g.S.ColumnStore.view c.args.store.now in
     let q = c.args.quote in
-    let room : length c.deref_mut.result.now ≡ work_of s = ap length (c.deref_mut.ensures.value ∙ c.in_ok_work.ensures.items_if_clones_equal (λ y e. e)) ∙ length_replicate (c.helpers.result * c.rows_rows.result) c.zero.result ∙ ap₂ ◌*◌ c.helpers.ensures c.rows_rows.ensures in
-    allowed s v q.column q.count (length c.deref_mut.result.now) c.requires.quoted c.requires.count (omega (arith, room))
+    let room : length c.deref-mut.result.now ≡ work_of s = ap length (c.deref-mut.ensures.value ∙ c.in-ok-work.ensures.items-if-clones-equal (λ y e. e)) ∙ length-replicate (c.helpers.result * c.rows-rows.result) c.zero.result ∙ ap₂ ◌*◌ c.helpers.ensures c.rows-rows.ensures in
+    allowed s v q.column q.count (length c.deref-mut.result.now) c.requires.quoted c.requires.count (omega (arith, room))
 
-pub put_summary_requires : goal.put_summary_requires
-put_summary_requires g c =
+pub put-summary-requires : goal.put-summary-requires
+put-summary-requires g c =
     let s = c.args.array.now.shape in
     let v = g.S.ColumnStore.view c.args.store.now in
     let q = c.args.quote in
     let a = accepted s v q.column q.count (work_of s) (allowed s v q.column q.count (work_of s) c.requires.quoted c.requires.count (omega arith)) in
-    record { column = omega (arith, c.column_column.ensures, a.last, columns_low s); count = omega (arith, c.count_count.ensures, c.requires.count, count_low s q.column) }
+    record { column = omega (arith, c.column-column.ensures, a.last, columns_low s); count = omega (arith, c.count-count.ensures, c.requires.count, count_low s q.column) }
 
 pub returns : goal.returns
 returns g c =
@@ -29,5 +29,5 @@ returns g c =
     let view = g.S.ColumnStore.view in
     let q = c.args.quote in
     brought s q.column (count_of s q.column) (view c.args.store.now) (view c.spend.new.store) c.spend.new.work c.spend.ensures
-    c.rows_rows.result c.column_column.result c.count_count.result c.rows_rows.ensures c.column_column.ensures (c.count_count.ensures ∙ c.requires.count)
-    (vec_items c.new_out.result) (vec_items c.put_frames.new.out) (vec_items c.put_summary.new.out) c.new_out.ensures.items c.in_ok_put_frames.ensures c.in_ok_put_summary.ensures
+    c.rows-rows.result c.column-column.result c.count-count.result c.rows-rows.ensures c.column-column.ensures (c.count-count.ensures ∙ c.requires.count)
+    (vec_items c.new-out.result) (vec_items c.put-frames.new.out) (vec_items c.put-summary.new.out) c.new-out.ensures.items c.in-ok-put-frames.ensures c.in-ok-put-summary.ensures

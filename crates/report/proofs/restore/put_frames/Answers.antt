@@ -6,28 +6,28 @@ use Rattle.report.proofs.Kept.{read_more}
 use Rattle.report.proofs.Rows.{lines_more}
 use Rattle.report.proofs.restore.put_frames.Goals as goal
 
-pub symbol_symbol_requires : goal.symbol_symbol_requires
-symbol_symbol_requires g c =
-    let same = c.loop_row.invariant.1 in
+pub symbol-symbol-requires : goal.symbol-symbol-requires
+symbol-symbol-requires g c =
+    let same = c.loop-row.invariant.1 in
     record {
       inside = (c.requires.column.0, omega (arith, same.columns), omega (arith, same.rows));
       present = ap (λ (f : ℕ → Bool). f c.args.column) same.lost ∙ c.requires.present;
     }
 
-pub loop_row_preserved : goal.loop_row_preserved
-loop_row_preserved g c =
+pub loop-row-preserved : goal.loop-row-preserved
+loop-row-preserved g c =
     let v = g.S.ColumnStore.view in
     let f = c.args.column in
-    let i = c.loop_row.row in
-    let same = c.loop_row.invariant.1 in
-    let here = c.symbol_symbol.ensures.is ∙ ap (λ (at : ℕ → ℕ → Byte). at f i) same.at in (
-      lines_more (λ r. present f r ((v c.args.store.now).at f r)) (vec_items c.args.out.now) (vec_items c.loop_row.out) (vec_items c.put_frame.new.out) i c.loop_row.invariant.0 (c.in_ok_put_frame.ensures ∙ ap (λ x. vec_items c.loop_row.out ++ present f i x) here),
-      read_more (v c.args.store.now) (v c.loop_row.store) (v c.symbol_symbol.new.store) same c.symbol_symbol.ensures.view,
+    let i = c.loop-row.row in
+    let same = c.loop-row.invariant.1 in
+    let here = c.symbol-symbol.ensures.is ∙ ap (λ (at : ℕ → ℕ → Byte). at f i) same.at in (
+      lines_more (λ r. present f r ((v c.args.store.now).at f r)) (vec_items c.args.out.now) (vec_items c.loop-row.out) (vec_items c.put-frame.new.out) i c.loop-row.invariant.0 (c.in-ok-put-frame.ensures ∙ ap (λ x. vec_items c.loop-row.out ++ present f i x) here),
+      read_more (v c.args.store.now) (v c.loop-row.store) (v c.symbol-symbol.new.store) same c.symbol-symbol.ensures.view,
     )
 
 pub returns : goal.returns
 returns g c =
     let v = g.S.ColumnStore.view in
     let f = c.args.column in
-    let e : c.loop_row.row ≡ c.args.rows = omega arith in
-    c.loop_row.invariant.0 ∙ ap (λ n. vec_items c.args.out.now ++ lines n (λ r. present f r ((v c.args.store.now).at f r))) e
+    let e : c.loop-row.row ≡ c.args.rows = omega arith in
+    c.loop-row.invariant.0 ∙ ap (λ n. vec_items c.args.out.now ++ lines n (λ r. present f r ((v c.args.store.now).at f r))) e

@@ -4,22 +4,22 @@ use Rattle.runs.proofs.Hands.{untouched, put_back}
 use Rattle.runs.proofs.Steps.{unspent, spent_as}
 use Rattle.runs.proofs.quoted.rebuild_from.Goals as goal
 
-pub returns_in_default : goal.returns_in_default
-returns_in_default g c =
+pub returns-in-default : goal.returns-in-default
+returns-in-default g c =
     let hand = c.args.hand.now in
-    let e = sym c.in_default.ensures.quote in
-    record { made = unspent g.S.ColumnStore.view g.X.Symbol.zero g.X.Symbol.plus c.args.array.now.shape c.args.slot c.args.store.now hand c.take_quote.new.hand c.args.work.now e (c.take_quote.ensures.hand ∙ untouched hand c.args.slot e); book = λ b A. A }
+    let e = sym c.in-default.ensures.quote in
+    record { made = unspent g.S.ColumnStore.view g.X.Symbol.zero g.X.Symbol.plus c.args.array.now.shape c.args.slot c.args.store.now hand c.take-quote.new.hand c.args.work.now e (c.take-quote.ensures.hand ∙ untouched hand c.args.slot e); book = λ b A. A }
 
-pub returns_in_Ok : goal.returns_in_Ok
-returns_in_Ok g c =
-    let (made, book) = spent_as g.S.ColumnStore.view g.X.Symbol.zero g.X.Symbol.plus c.args.array.now.shape c.args.slot c.args.store.now c.rebuild.new.store c.args.hand.now c.take_quote.new.hand c.args.work.now c.rebuild.new.work c.in_Some.quote (Ok c.in_Ok.count) (sym c.in_Some.ensures.quote) c.take_quote.ensures.hand c.in_Ok.ensures.answer c.in_Ok.ensures.book in
+pub returns-in-Ok : goal.returns-in-Ok
+returns-in-Ok g c =
+    let (made, book) = spent_as g.S.ColumnStore.view g.X.Symbol.zero g.X.Symbol.plus c.args.array.now.shape c.args.slot c.args.store.now c.rebuild.new.store c.args.hand.now c.take-quote.new.hand c.args.work.now c.rebuild.new.work c.in-Some.quote (Ok c.in-Ok.count) (sym c.in-Some.ensures.quote) c.take-quote.ensures.hand c.in-Ok.ensures.answer c.in-Ok.ensures.book in
     record { made = made; book = book }
 
-pub returns_in_Err : goal.returns_in_Err
-returns_in_Err g c =
+pub returns-in-Err : goal.returns-in-Err
+returns-in-Err g c =
     let hand = c.args.hand.now in
     let slot = c.args.slot in
-    let e = sym c.in_Some.ensures.quote in
-    let back = c.put_quote.ensures ∙ ap₂ (λ h q. holding h slot q) c.take_quote.ensures.hand c.in_Err.ensures.answer.1 ∙ put_back hand slot c.in_Some.quote e in
-    let (made, book) = spent_as g.S.ColumnStore.view g.X.Symbol.zero g.X.Symbol.plus c.args.array.now.shape slot c.args.store.now c.rebuild.new.store hand c.put_quote.new.hand c.args.work.now c.rebuild.new.work c.in_Some.quote (Err c.in_Err.rejected) e back c.in_Err.ensures.answer c.in_Err.ensures.book in
+    let e = sym c.in-Some.ensures.quote in
+    let back = c.put-quote.ensures ∙ ap₂ (λ h q. holding h slot q) c.take-quote.ensures.hand c.in-Err.ensures.answer.1 ∙ put_back hand slot c.in-Some.quote e in
+    let (made, book) = spent_as g.S.ColumnStore.view g.X.Symbol.zero g.X.Symbol.plus c.args.array.now.shape slot c.args.store.now c.rebuild.new.store hand c.put-quote.new.hand c.args.work.now c.rebuild.new.work c.in-Some.quote (Err c.in-Err.rejected) e back c.in-Err.ensures.answer c.in-Err.ensures.book in
     record { made = made; book = book }

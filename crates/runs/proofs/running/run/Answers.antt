@@ -1,5 +1,5 @@
 use Rattle.std.proofs.Common.{◌≡◌, ◌<◌, length, refl, ◌∙◌, subst, arith, rules}
-use Rattle.std.proofs.lemmas.List.{get_or_default, get_or_set_other}
+use Rattle.std.proofs.lemmas.List.{get_or_default, get_or-set_other}
 use Rattle.runs.specs.Law.{Runs}
 use Rattle.runs.specs.Steps.{state_of, Stepped}
 use Rattle.runs.specs.declared.calls.Call.TheVariants.{Ask}
@@ -7,32 +7,32 @@ use Rattle.runs.specs.declared.calls.Answer.TheVariants.{Unmade}
 use Rattle.runs.proofs.Runs.{chain_none, chain_more, ran}
 use Rattle.runs.proofs.running.run.Goals as goal
 
-pub loop_i_init : goal.loop_i_init
-loop_i_init g c = (chain_none g.S.ColumnStore.view g.X.Symbol.zero g.X.Symbol.plus c.args.array.now.shape c.args.calls.now _ _, λ j h. refl)
+pub loop-i-init : goal.loop-i-init
+loop-i-init g c = (chain_none g.S.ColumnStore.view g.X.Symbol.zero g.X.Symbol.plus c.args.array.now.shape c.args.calls.now _ _, λ j h. refl)
 
-pub offset_bounds_answers_i : goal.offset_bounds_answers_i
-offset_bounds_answers_i g c =
-    let asked = c.min_count.ensures in
-    let more = c.loop_i_test.true in
-    let h : c.loop_i.i < length c.args.answers.now = omega arith in
+pub offset-bounds-answers-i : goal.offset-bounds-answers-i
+offset-bounds-answers-i g c =
+    let asked = c.min-count.ensures in
+    let more = c.loop-i-test.true in
+    let h : c.loop-i.i < length c.args.answers.now = omega arith in
     search rules
 
-pub loop_i_preserved : goal.loop_i_preserved
-loop_i_preserved g c =
+pub loop-i-preserved : goal.loop-i-preserved
+loop-i-preserved g c =
     let v = g.S.ColumnStore.view in
     let none = g.X.Symbol.zero in
     let plus = g.X.Symbol.plus in
     let s = c.args.array.now.shape in
     let calls = c.args.calls.now in
-    let i = c.loop_i.i in
+    let i = c.loop-i.i in
     let r = c.step.result in
-    let a = state_of c.loop_i.store c.loop_i.hand c.loop_i.work in
+    let a = state_of c.loop-i.store c.loop-i.hand c.loop-i.work in
     let z = state_of c.step.new.store c.step.new.hand c.step.new.work in
-    let known : i < length calls = omega (arith, c.min_count.ensures, c.loop_i_test.true) in
-    let room : i < length c.loop_i.answers = omega (arith, c.min_count.ensures, c.loop_i_test.true, c.loop_i.auto.answers) in
-    let call_is = c.index_calls_i.is ∙ get_or_default calls i c.index_calls_i.result Ask known in (
-      chain_more v none plus s calls _ i _ a z r room c.loop_i.invariant.0 (subst (λ call. Stepped v none plus s call a r z) call_is c.step.ensures),
-      λ j h. get_or_set_other c.loop_i.answers i j r Unmade (λ e. omega arith) ∙ c.loop_i.invariant.1 j (omega arith),
+    let known : i < length calls = omega (arith, c.min-count.ensures, c.loop-i-test.true) in
+    let room : i < length c.loop-i.answers = omega (arith, c.min-count.ensures, c.loop-i-test.true, c.loop-i.auto.answers) in
+    let call-is = c.index-calls-i.is ∙ get_or_default calls i c.index-calls-i.result Ask known in (
+      chain_more v none plus s calls _ i _ a z r room c.loop-i.invariant.0 (subst (λ call. Stepped v none plus s call a r z) call-is c.step.ensures),
+      λ j h. get_or-set_other c.loop-i.answers i j r Unmade (λ e. omega arith) ∙ c.loop-i.invariant.1 j (omega arith),
     )
 
 pub returns : goal.returns
@@ -43,7 +43,7 @@ returns g c =
     let s = c.args.array.now.shape in
     let calls = c.args.calls.now in
     let a = state_of c.args.store.now c.args.hand.now c.args.work.now in
-    let z = state_of c.loop_i.store c.loop_i.hand c.loop_i.work in
-    let all : c.loop_i.i ≡ c.min_count.result = omega (arith, c.loop_i_test.false, c.loop_i.auto.i_end) in
-    subst (λ n. Runs v none plus s calls c.args.answers.now n c.loop_i.answers a z) all
-    (record { all = all ∙ c.min_count.ensures; ran = ran v none plus s calls _ _ a z c.loop_i.invariant.0; rest = c.loop_i.invariant.1 })
+    let z = state_of c.loop-i.store c.loop-i.hand c.loop-i.work in
+    let all : c.loop-i.i ≡ c.min-count.result = omega (arith, c.loop-i-test.false, c.loop-i.auto.i-end) in
+    subst (λ n. Runs v none plus s calls c.args.answers.now n c.loop-i.answers a z) all
+    (record { all = all ∙ c.min-count.ensures; ran = ran v none plus s calls _ _ a z c.loop-i.invariant.0; rest = c.loop-i.invariant.1 })

@@ -4,7 +4,7 @@ use Rattle.runs.specs.Steps.{state_of}
 use Rattle.runs.proofs.Runs.{Chain}
 use Rattle.runs.proofs.running.run.Given as goal
 
-abbrev pub invariant_loop_i : goal.invariant_loop_i
-invariant_loop_i g l =
+abbrev pub invariant-loop-i : goal.invariant-loop-i
+invariant-loop-i g l =
     Chain g.S.ColumnStore.view g.X.Symbol.zero g.X.Symbol.plus l.array.shape l.calls l.answers l.i (state_of l.initial.store l.initial.hand l.initial.work) (state_of l.store l.hand l.work) ×
     ((j : ℕ) → l.i ≤ j → answer_at l.answers j ≡ answer_at l.initial.answers j)

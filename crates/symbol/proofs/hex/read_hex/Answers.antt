@@ -5,23 +5,23 @@ use Rattle.symbol.specs.Hex.{unhex}
 use Rattle.symbol.proofs.Digits.{drop_pair, unhex_more, front_all}
 use Rattle.symbol.proofs.hex.read_hex.Goals as goal
 
-pub returns_in_default : goal.returns_in_default
-returns_in_default c =
-    let p = drop_pair c.args.part.now c.loop_i.i (omega arith) in
-    let e = c.in_default.ensures in
+pub returns-in-default : goal.returns-in-default
+returns-in-default c =
+    let p = drop_pair c.args.part.now c.loop-i.i (omega arith) in
+    let e = c.in-default.ensures in
     grind (arith, nat_tests)
 
-pub loop_i_preserved : goal.loop_i_preserved
-loop_i_preserved c =
+pub loop-i-preserved : goal.loop-i-preserved
+loop-i-preserved c =
     let s = c.args.part.now in
-    let i = c.loop_i.i in
+    let i = c.loop-i.i in
     let p = drop_pair s i (omega arith) in
-    let e = c.in_Some.ensures in
-    (grind (arith, nat_tests), c.loop_i.invariant.1 ∙ unhex_more s c.loop_i.bytes i c.in_Some.byte (omega arith) (omega arith) (grind (arith, nat_tests)))
+    let e = c.in-Some.ensures in
+    (grind (arith, nat_tests), c.loop-i.invariant.1 ∙ unhex_more s c.loop-i.bytes i c.in-Some.byte (omega arith) (omega arith) (grind (arith, nat_tests)))
 
 pub returns : goal.returns
 returns c =
     let s = c.args.part.now in
-    let i = c.loop_i.i in
+    let i = c.loop-i.i in
     let d = drop_all (2 * i) s (omega arith) in
-    (grind (arith, nat_tests), sym (c.loop_i.invariant.1 ∙ front_all unhex c.loop_i.bytes s i (2 * i) refl (omega arith) (omega arith)))
+    (grind (arith, nat_tests), sym (c.loop-i.invariant.1 ∙ front_all unhex c.loop-i.bytes s i (2 * i) refl (omega arith) (omega arith)))

@@ -3,5 +3,5 @@ use Rattle.symbol.specs.Hex.{hex}
 use Rattle.symbol.proofs.hex.write_hex.Given as goal
 
 -- what is left of the bytes gives the rest
-abbrev pub invariant_loop_i : goal.invariant_loop_i
-invariant_loop_i l = hex l.bytes ≡ take (2 * l.i) l.part ++ hex (drop l.i l.bytes)
+abbrev pub invariant-loop-i : goal.invariant-loop-i
+invariant-loop-i l = hex l.bytes ≡ take (2 * l.i) l.part ++ hex (drop l.i l.bytes)

@@ -7,5 +7,5 @@ pub returns : goal.returns
 returns c =
     let (j₁, j₂) = c.requires.parity in
     let (c₁, c₂) = c.requires.column in
-    let e = shift_known c.args.shape c.args.parity c.args.column _ j₁ j₂ c₁ c₂ c.in_Some.ensures in
+    let e = shift_known c.args.shape c.args.parity c.args.column _ j₁ j₂ c₁ c₂ c.in-Some.ensures in
     record { is = e; low = omega (arith, e, shift_low c.args.shape c.args.parity c.args.column j₁ j₂ c₁ c₂) }

@@ -4,8 +4,8 @@ use Rattle.repair.specs.Rows.{addend}
 use Rattle.repair.specs.Lists.{area}
 use Rattle.repair.proofs.plan.Plan.row.Given as goal
 
-abbrev pub invariant_loop_i : goal.invariant_loop_i
-invariant_loop_i g l =
+abbrev pub invariant-loop-i : goal.invariant-loop-i
+invariant-loop-i g l =
     let x = g.X.Symbol in
     let s = l.self.shape in
     let f = l.self.lost in

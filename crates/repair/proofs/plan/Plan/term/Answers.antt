@@ -5,15 +5,15 @@ use Rattle.repair.specs.Lists.{area}
 use Rattle.repair.proofs.Planned.{steps_low, positions_low, from_is}
 use Rattle.repair.proofs.plan.Plan.term.Goals as goal
 
-pub overflow_mul_from : goal.overflow_mul_from
-overflow_mul_from g c = omega (arith, steps_low c.args.self.now c.args.i c.args.gap c.requires.column c.requires.gap, positions_low c.args.self.now)
+pub overflow-mul-from : goal.overflow-mul-from
+overflow-mul-from g c = omega (arith, steps_low c.args.self.now c.args.i c.args.gap c.requires.column c.requires.gap, positions_low c.args.self.now)
 
-pub overflow_sub_from : goal.overflow_sub_from
-overflow_sub_from g c = steps_low c.args.self.now c.args.i c.args.gap c.requires.column c.requires.gap
+pub overflow-sub-from : goal.overflow-sub-from
+overflow-sub-from g c = steps_low c.args.self.now c.args.i c.args.gap c.requires.column c.requires.gap
 
 pub returns : goal.returns
 returns g c =
     let u = c.args.self.now in
     let none = g.X.Symbol.zero in
-    rw (ne_eqb (c.args.i + 1) u.lost c.if_i_self.false)
+    rw (ne_eqb (c.args.i + 1) u.lost c.if-i-self.false)
     (c.symbol.ensures ∙ ap (symbol_of none g.X.Symbol.plus u.shape (area none u.shape u.lost c.args.work.now (c.args.i + 1))) (from_is u c.args.i c.args.gap c.args.position c.requires.column))

@@ -1,5 +1,5 @@
 use Rattle.std.proofs.Common.{rules}
-use Rattle.std.proofs.lemmas.List.{get_or_set_other}
+use Rattle.std.proofs.lemmas.List.{get_or-set_other}
 use Rattle.store.proofs.over.TableColumnStore.write.Goals as goal
 
 pub returns : goal.returns
@@ -12,6 +12,6 @@ returns g c = (
     meter = search rules;
     lender = search rules;
     here = search rules;
-    others = λ d s inside apart. let ne = c.place_place.ensures.apart d s inside.0 inside.2 apart in search (rules, get_or_set_other);
+    others = λ d s inside apart. let ne = c.place-place.ensures.apart d s inside.0 inside.2 apart in search (rules, get_or-set_other);
   },
 )

@@ -1,5 +1,5 @@
-use Rattle.std.proofs.Common.{◌∙◌, ap₂, add_one, arith, rules}
+use Rattle.std.proofs.Common.{◌∙◌, ap₂, add-one, arith, rules}
 use Rattle.sums.proofs.rule.ParityRule.sum.Goals as goal
 
-pub loop_i_preserved : goal.loop_i_preserved
-loop_i_preserved g c = rw (add_one c.loop_i.i) (c.add_sum.ensures ∙ ap₂ g.X.Symbol.plus c.loop_i.invariant c.term.ensures)
+pub loop-i-preserved : goal.loop-i-preserved
+loop-i-preserved g c = rw (add-one c.loop-i.i) (c.add-sum.ensures ∙ ap₂ g.X.Symbol.plus c.loop-i.invariant c.term.ensures)

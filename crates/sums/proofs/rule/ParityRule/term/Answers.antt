@@ -4,14 +4,14 @@ use Rattle.code.specs.Places.{rows_from}
 use Rattle.sums.proofs.Rules.{few, shift_fits, column_fits, ring, term_is}
 use Rattle.sums.proofs.rule.ParityRule.term.Goals as goal
 
-pub overflow_mul_i : goal.overflow_mul_i
-overflow_mul_i g c = omega (arith, column_fits c.args.self.now c.args.i c.requires.column)
+pub overflow-mul-i : goal.overflow-mul-i
+overflow-mul-i g c = omega (arith, column_fits c.args.self.now c.args.i c.requires.column)
 
-pub shifted_from_requires : goal.shifted_from_requires
-shifted_from_requires g c = record { few = few c.args.self.now; shift = shift_fits c.args.self.now c.args.i c.requires.column; position = omega (arith, c.args.self.now.positions_are) }
+pub shifted-from-requires : goal.shifted-from-requires
+shifted-from-requires g c = record { few = few c.args.self.now; shift = shift_fits c.args.self.now c.args.i c.requires.column; position = omega (arith, c.args.self.now.positions_are) }
 
-pub at_requires : goal.at_requires
-at_requires g c = record { room = omega (arith, column_fits c.args.self.now c.args.i c.requires.column); position = omega (arith, ring c.args.self.now, c.shifted_from.ensures.below) }
+pub at-requires : goal.at-requires
+at-requires g c = record { room = omega (arith, column_fits c.args.self.now c.args.i c.requires.column); position = omega (arith, ring c.args.self.now, c.shifted_from.ensures.below) }
 
 pub returns : goal.returns
 returns g c =
