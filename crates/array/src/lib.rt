@@ -1,4 +1,6 @@
 // Arrays, and what the calls on an array have in common: their checks and their steps.
+#![tactic(auto)]
+
 mod array;
 mod checks;
 mod steps;

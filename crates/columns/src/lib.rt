@@ -1,4 +1,6 @@
 // What founding, rebuilding and auditing do with whole columns.
+#![tactic(auto)]
+
 mod loading;
 mod parities;
 

@@ -1,4 +1,6 @@
 // A vending route of stands over a table in memory: its readings, its parity columns, and boards that die and come back.
+#![tactic(auto)]
+
 use anyhow::anyhow;
 use array::Array;
 use code::{Refusal, Shape};

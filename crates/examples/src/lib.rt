@@ -1,4 +1,6 @@
 // Examples of all crates, as tests. They stand in a crate of their own, so that no crate is proved twice for them.
+#![tactic(auto)]
+
 #[cfg(test)]
 mod auditing;
 #[cfg(test)]

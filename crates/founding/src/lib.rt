@@ -1,4 +1,6 @@
 // Founding an array: over any store, and in lent memory.
+#![tactic(auto)]
+
 mod founding;
 mod memory;
 

@@ -1,4 +1,6 @@
 // Frames: a text that stands for an array, checked, read and written in place.
+#![tactic(auto)]
+
 mod checks;
 mod columns;
 mod edits;

@@ -1,4 +1,6 @@
 // Rebuilds the lowest lost column of the array that stands in standard input: docs/PROGRAM.md.
+#![tactic(auto)]
+
 use report::report;
 use std::io;
 use std::io::Read;

@@ -1,4 +1,6 @@
 // Losing a column, and rebuilding it from its helpers.
+#![tactic(auto)]
+
 mod both;
 mod listed;
 mod losing;

@@ -1,4 +1,6 @@
 // The rebuilding of a lost data column: which symbols are read, and how they give its rows.
+#![tactic(auto)]
+
 ghost use Rattle.repair.specs.Laws.{NeededIsListed, SizeIsFormula, PartsAreApart, GivesBack, OnlySolution, DependsOnListed, DiffersExactly, ParityDiffers};
 
 mod numbers;

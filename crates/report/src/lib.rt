@@ -1,4 +1,6 @@
 // What the program `rebuild` prints of an input.
+#![tactic(auto)]
+
 mod call;
 mod head;
 mod heads;

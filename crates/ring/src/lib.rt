@@ -1,5 +1,7 @@
 // Sums over a ring of positions. There is nothing to run here: each function's contract is a theorem, which the codes
 // built on the ring cite.
+#![tactic(auto)]
+
 ghost use Rattle.ring.specs.Laws.{ShiftsKeepClasses, ClassesSumToNone, ParityObeysClassSums};
 
 pub fn shifts_keep_classes() -> bool

@@ -1,4 +1,6 @@
 // Whole runs of calls on an array.
+#![tactic(auto)]
+
 mod calls;
 mod hand;
 mod quoted;

@@ -1,5 +1,7 @@
 // A vending route of stands over a table in memory: its readings, its parity columns, sales, and boards that die and come
 // back. A plain book is kept beside the array, and both are printed.
+#![tactic(auto)]
+
 mod book;
 
 use crate::book::Book;

@@ -1,4 +1,6 @@
 // Column stores: what a store of columns means, and the table store.
+#![tactic(auto)]
+
 mod column;
 mod over;
 mod table;

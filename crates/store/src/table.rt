@@ -1,10 +1,8 @@
 // A table of symbols in lent memory.
 ghost use Rattle.std.specs.Prelude.{◌≡◌, ◌*◌, ◌^◌, ◌<◌, ◌≤◌, length};
 
-use symbol::Symbol;
-
 #[derive(Drop)]
-pub struct Table<'a, X: Symbol> {
+pub struct Table<'a, X> {
     pub(crate) columns: usize,
     pub(crate) rows: usize,
     pub(crate) cells: &'a mut [X],

@@ -1,4 +1,6 @@
 // Sums over lent symbols: the symbol at any position of a column, and a parity at any position.
+#![tactic(auto)]
+
 mod parity;
 mod position;
 mod rule;

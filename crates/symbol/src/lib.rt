@@ -1,4 +1,6 @@
 // Kinds of symbol: what is summed, and how it is written down.
+#![tactic(auto)]
+
 mod byte;
 mod hex;
 mod kind;

@@ -3,6 +3,8 @@
 // `P column row digits` (put), `G column row` (get), `L column` (lose), `Q column slot` (quote), `B slot` (rebuild), `A`
 // (audit) and `?` (the question). `X k q p column slot` puts a quote of another array into the hand before the calls.
 // tools/reference.py works out the same lines on its own.
+#![tactic(auto)]
+
 mod input;
 mod output;
 

@@ -1,4 +1,6 @@
 // Single data symbols: putting one, which the parities follow, and getting one.
+#![tactic(auto)]
+
 mod carrying;
 mod getting;
 mod places;

@@ -2,6 +2,8 @@
 // hold: a checksum of each, and its first symbol, and a checksum of the text in which the same array was founded. Then it loses and rebuilds each column, and prints the reads and the
 // column's checksum. For each line `text width what a b` it checks a
 // damaged text. tools/reference.py works out the same lines on its own.
+#![tactic(auto)]
+
 use anyhow::anyhow;
 use array::Array;
 use code::{Refusal, Shape};

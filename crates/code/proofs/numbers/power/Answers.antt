@@ -3,8 +3,8 @@ use native.Mathlib.Nat.{pow-zero}
 use Rattle.code.proofs.Bounds.{power_more, power_low}
 use Rattle.code.proofs.numbers.power.Goals as goal
 
-pub overflow-mul-product : goal.overflow-mul-product
-overflow-mul-product c = omega (arith, power_more c.args.base c.loop-i.i c.loop-i.product c.loop-i.invariant, power_low c.args.base (c.loop-i.i + 1) c.requires.base.1 (omega arith))
+pub overflow_mul-product : goal.overflow_mul-product
+overflow_mul-product c = omega (arith, power_more c.args.base c.loop-i.i c.loop-i.product c.loop-i.invariant, power_low c.args.base (c.loop-i.i + 1) c.requires.base.1 (omega arith))
 
 pub loop-i-init : goal.loop-i-init
 loop-i-init c = sym (pow-zero c.args.base)

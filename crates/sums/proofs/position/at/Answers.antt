@@ -14,5 +14,5 @@ returns-then-position-rows g c =
 pub returns-else-position-rows : goal.returns-else-position-rows
 returns-else-position-rows g c =
     let z = g.X.Symbol.zero in
-    c.class-sum.ensures
+    c.class_sum.ensures
     ∙ sym (at_extra z g.X.Symbol.plus c.args.blocks c.args.classes (rows_from z c.args.cells.now c.args.start) c.args.position (omega arith))

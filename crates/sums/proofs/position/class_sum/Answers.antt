@@ -3,17 +3,17 @@ use Rattle.std.proofs.lemmas.List.{get_or_read}
 use Rattle.sums.proofs.Steps.{class_row}
 use Rattle.sums.proofs.position.class_sum.Goals as goal
 
-pub overflow-mul-a : goal.overflow-mul-a
-overflow-mul-a g c = omega (arith, class_row c.loop-a.a c.args.blocks c.args.classes c.args.class (omega arith) c.requires.class)
+pub overflow_mul-a : goal.overflow_mul-a
+overflow_mul-a g c = omega (arith, class_row c.loop-a.a c.args.blocks c.args.classes c.args.class (omega arith) c.requires.class)
 
-pub overflow-add-a : goal.overflow-add-a
-overflow-add-a g c = omega (arith, class_row c.loop-a.a c.args.blocks c.args.classes c.args.class (omega arith) c.requires.class)
+pub overflow_add-a : goal.overflow_add-a
+overflow_add-a g c = omega (arith, class_row c.loop-a.a c.args.blocks c.args.classes c.args.class (omega arith) c.requires.class)
 
-pub overflow-add-start : goal.overflow-add-start
-overflow-add-start g c = let h = class_row c.loop-a.a c.args.blocks c.args.classes c.args.class (omega arith) c.requires.class in search rules
+pub overflow_add-start : goal.overflow_add-start
+overflow_add-start g c = let h = class_row c.loop-a.a c.args.blocks c.args.classes c.args.class (omega arith) c.requires.class in search rules
 
-pub offset-bounds-cells-start : goal.offset-bounds-cells-start
-offset-bounds-cells-start g c = omega (arith, class_row c.loop-a.a c.args.blocks c.args.classes c.args.class (omega arith) c.requires.class)
+pub offset_bounds-cells-start : goal.offset_bounds-cells-start
+offset_bounds-cells-start g c = omega (arith, class_row c.loop-a.a c.args.blocks c.args.classes c.args.class (omega arith) c.requires.class)
 
 pub bounds-cells-start : goal.bounds-cells-start
 bounds-cells-start g c = omega (arith, class_row c.loop-a.a c.args.blocks c.args.classes c.args.class (omega arith) c.requires.class)

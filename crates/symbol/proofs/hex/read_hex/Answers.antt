@@ -5,10 +5,10 @@ use Rattle.symbol.specs.Hex.{unhex}
 use Rattle.symbol.proofs.Digits.{drop_pair, unhex_more, front_all}
 use Rattle.symbol.proofs.hex.read_hex.Goals as goal
 
-pub returns-in-default : goal.returns-in-default
-returns-in-default c =
+pub returns-in_default : goal.returns-in_default
+returns-in_default c =
     let p = drop_pair c.args.part.now c.loop-i.i (omega arith) in
-    let e = c.in-default.ensures in
+    let e = c.in_default.ensures in
     grind (arith, nat_tests)
 
 pub loop-i-preserved : goal.loop-i-preserved
