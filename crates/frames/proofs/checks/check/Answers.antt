@@ -9,8 +9,8 @@ use Rattle.frames.proofs.Stands.{render_passes, render_back, render_there}
 use Rattle.frames.proofs.checks.check.Given as given
 use Rattle.frames.proofs.checks.check.Goals as goal
 
-pub check-lines-requires : goal.check-lines-requires
-check-lines-requires g c =
+pub check_lines-requires : goal.check_lines-requires
+check_lines-requires g c =
     let s = c.args.shape in
     let some = rows_some s in
     let few = columns_few s in
@@ -39,4 +39,4 @@ returns-then-text-needed g c =
 pub returns : goal.returns
 returns g c =
     let f = faithful g c.args.shape c.args.text.now in
-    record { answer = right_told _ _ _ _ _ _ c.args.text.now c.columns.ensures c.rows-rows.ensures c.stride.ensures.is c.if-text-needed.false c.check-lines.result c.check-lines.ensures; passes = f.0; back = f.1; there = f.2 }
+    record { answer = right_told _ _ _ _ _ _ c.args.text.now c.columns.ensures c.rows-rows.ensures c.stride.ensures.is c.if-text-needed.false c.check_lines.result c.check_lines.ensures; passes = f.0; back = f.1; there = f.2 }

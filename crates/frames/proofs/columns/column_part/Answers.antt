@@ -6,15 +6,15 @@ use Rattle.frames.proofs.Refused.{column_there}
 use Rattle.frames.proofs.Sound.{column_in}
 use Rattle.frames.proofs.columns.column_part.Goals as goal
 
-pub slice-bounds-result-end : goal.slice-bounds-result-end
-slice-bounds-result-end g c =
-    let f = column_in (columns_of c.args.shape) (rows_of c.args.shape) g.X.Symbol.width c.args.text.now c.args.column c.rows.result c.stride.result c.in-ok-check.ensures.answer c.rows.ensures c.stride.ensures.is (search rules) (search rules) in
+pub slice_bounds-result-end : goal.slice_bounds-result-end
+slice_bounds-result-end g c =
+    let f = column_in (columns_of c.args.shape) (rows_of c.args.shape) g.X.Symbol.width c.args.text.now c.args.column c.rows.result c.stride.result c.in_ok-check.ensures.answer c.rows.ensures c.stride.ensures.is (search rules) (search rules) in
     search rules
 
 pub returns : goal.returns
 returns g c =
     let s = c.args.shape in
-    let f = column_in (columns_of s) (rows_of s) g.X.Symbol.width c.args.text.now c.args.column c.rows.result c.stride.result c.in-ok-check.ensures.answer c.rows.ensures c.stride.ensures.is (search rules) (search rules) in (
-      ap₂ or_else c.in-ok-check.ensures.answer (column_there (columns_of s) c.args.column _ (search rules) (search rules)),
+    let f = column_in (columns_of s) (rows_of s) g.X.Symbol.width c.args.text.now c.args.column c.rows.result c.stride.result c.in_ok-check.ensures.answer c.rows.ensures c.stride.ensures.is (search rules) (search rules) in (
+      ap₂ or_else c.in_ok-check.ensures.answer (column_there (columns_of s) c.args.column _ (search rules) (search rules)),
       is_column (rows_of s) g.X.Symbol.width c.args.text.now c.args.column (c.rows.result * c.stride.result) (ap₂ ◌*◌ c.rows.ensures c.stride.ensures.is) f,
     )

@@ -3,4 +3,4 @@ use Rattle.frames.proofs.Refused.{some_if}
 use Rattle.frames.proofs.frame.are_digits.Goals as goal
 
 pub returns : goal.returns
-returns g c = c.is-some.ensures ∙ ap is_some c.read-digits.ensures ∙ some_if _ _
+returns g c = c.is_some.ensures ∙ ap is_some c.read_digits.ensures ∙ some_if _ _

@@ -6,14 +6,14 @@ use Rattle.frames.proofs.lines.place.Goals as goal
 fits : (c : goal.Else-not-whole) → (place_of c.args.rows c.args.column c.args.row * c.args.stride + c.args.stride ≤ c.args.size) × (place_of c.args.rows c.args.column c.args.row ≤ c.args.size)
 fits c = place_fits c.args.column c.args.row c.args.columns c.args.rows c.args.stride c.args.size (search rules) (search rules) (search rules) (search rules) (whole_size c.args.stride c.args.columns c.args.rows c.args.size (search rules))
 
-pub overflow-mul-result : goal.overflow-mul-result
-overflow-mul-result c = let f = fits c in search rules
+pub overflow_mul-result : goal.overflow_mul-result
+overflow_mul-result c = let f = fits c in search rules
 
-pub overflow-add-result : goal.overflow-add-result
-overflow-add-result c = let f = fits c in search rules
+pub overflow_add-result : goal.overflow_add-result
+overflow_add-result c = let f = fits c in search rules
 
-pub overflow-mul-result-2 : goal.overflow-mul-result-2
-overflow-mul-result-2 c = let f = fits c in search rules
+pub overflow_mul-result-2 : goal.overflow_mul-result-2
+overflow_mul-result-2 c = let f = fits c in search rules
 
 pub returns : goal.returns
 returns c = let f = fits c in search rules

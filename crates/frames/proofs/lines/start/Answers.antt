@@ -1,8 +1,8 @@
 use Rattle.std.proofs.Common.{◌+◌, ◌*◌, ◌≤◌, mul-le-mul_right, arith, rules}
 use Rattle.frames.proofs.lines.start.Goals as goal
 
-pub overflow-mul-result : goal.overflow-mul-result
-overflow-mul-result c =
+pub overflow_mul-result : goal.overflow_mul-result
+overflow_mul-result c =
     let h : (c.args.line + 1) * c.args.stride ≤ c.args.lines * c.args.stride = mul-le-mul_right c.args.stride (omega arith) in
     search rules
 

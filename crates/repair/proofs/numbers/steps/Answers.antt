@@ -11,5 +11,5 @@ returns-in-Some c =
     record {
       twelve = c.shifts.ensures.twelve;
       are = λ i h. c.shifts.ensures.are i (subst (λ a. i < a.k) (sym made.0) h)
-          ∙ steps_are s c.args.lost c.requires.lost.0 c.requires.lost.1 u made.0 (made.1 ∙ c.unit-parity.ensures ∙ ap (λ b. cond b 2 (parities_of s)) c.requires.half) i h;
+          ∙ steps_are s c.args.lost c.requires.lost.0 c.requires.lost.1 u made.0 (made.1 ∙ c.unit_parity.ensures ∙ ap (λ b. cond b 2 (parities_of s)) c.requires.half) i h;
     }

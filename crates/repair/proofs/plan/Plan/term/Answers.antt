@@ -5,11 +5,11 @@ use Rattle.repair.specs.Lists.{area}
 use Rattle.repair.proofs.Planned.{steps_low, positions_low, from_is}
 use Rattle.repair.proofs.plan.Plan.term.Goals as goal
 
-pub overflow-mul-from : goal.overflow-mul-from
-overflow-mul-from g c = omega (arith, steps_low c.args.self.now c.args.i c.args.gap c.requires.column c.requires.gap, positions_low c.args.self.now)
+pub overflow_mul-from : goal.overflow_mul-from
+overflow_mul-from g c = omega (arith, steps_low c.args.self.now c.args.i c.args.gap c.requires.column c.requires.gap, positions_low c.args.self.now)
 
-pub overflow-sub-from : goal.overflow-sub-from
-overflow-sub-from g c = steps_low c.args.self.now c.args.i c.args.gap c.requires.column c.requires.gap
+pub overflow_sub-from : goal.overflow_sub-from
+overflow_sub-from g c = steps_low c.args.self.now c.args.i c.args.gap c.requires.column c.requires.gap
 
 pub returns : goal.returns
 returns g c =
