@@ -3,13 +3,13 @@ use Rattle.store.specs.View.{View}
 use Rattle.columns.proofs.Turns.{gathered_more}
 use Rattle.columns.proofs.loading.gather.Goals as goal
 
-pub overflow-mul-c : goal.overflow-mul-c
-overflow-mul-c g c =
+pub overflow_mul-c : goal.overflow_mul-c
+overflow_mul-c g c =
     let h : (c.loop-c.c + 1) * c.args.rows ≤ c.args.count * c.args.rows = mul-le-mul_right c.args.rows (omega arith) in
     search rules
 
-pub load-column-requires : goal.load-column-requires
-load-column-requires g c =
+pub load_column-requires : goal.load_column-requires
+load_column-requires g c =
     let h : (c.loop-c.c + 1) * c.args.rows ≤ c.args.count * c.args.rows = mul-le-mul_right c.args.rows (omega arith) in
     let e = c.loop-c.invariant.meter in
     let wide = ap (λ (v : View _). v.columns) e in
@@ -22,4 +22,4 @@ load-column-requires g c =
     }
 
 pub loop-c-preserved : goal.loop-c-preserved
-loop-c-preserved g c = gathered_more _ _ _ _ _ _ _ _ _ c.loop-c.invariant c.in-ok-load-column.ensures
+loop-c-preserved g c = gathered_more _ _ _ _ _ _ _ _ _ c.loop-c.invariant c.in_ok-load_column.ensures

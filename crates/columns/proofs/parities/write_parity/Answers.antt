@@ -10,4 +10,4 @@ returns g c =
     let (Shape-is, parity-is) = c.in-Some.ensures in
     let last : c.args.column ≤ columns_of s = omega (arith, c.in-Some.rule.is_parity.1, ap parities_of Shape-is, parity-is) in
     let room : data_of s ≤ length c.args.cells.now = omega (arith, ap (λ r. s.k * r) c.rows.ensures) in
-    written g.S.ColumnStore.view g.X.Symbol.zero g.X.Symbol.plus s c.args.store.now c.write-rows.new.store c.admit.new.store c.args.column c.args.cells.now c.admit.result c.in-ok-check-fit.ensures (omega arith) last room c.in-ok-write-rows.ensures c.admit.ensures
+    written g.S.ColumnStore.view g.X.Symbol.zero g.X.Symbol.plus s c.args.store.now c.write_rows.new.store c.admit.new.store c.args.column c.args.cells.now c.admit.result c.in_ok-check_fit.ensures (omega arith) last room c.in_ok-write_rows.ensures c.admit.ensures

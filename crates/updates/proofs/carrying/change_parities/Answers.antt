@@ -7,18 +7,18 @@ use Rattle.updates.proofs.carrying.change_parities.Goals as goal
 pub loop-j-init : goal.loop-j-init
 loop-j-init g c = parities_none g.X.Symbol.plus c.args.change c.args.shape c.args.column c.args.row _ (g.S.ColumnStore.counted c.args.store.now)
 
-pub change-parity-requires : goal.change-parity-requires
-change-parity-requires g c =
+pub change_parity-requires : goal.change_parity-requires
+change_parity-requires g c =
     let L = c.loop-j.invariant.leaves in
     record { fits = still_fits c.args.shape (g.S.ColumnStore.view c.args.store.now) (g.S.ColumnStore.view c.loop-j.store) L.columns L.rows c.requires.fits; parity = (omega arith, omega (arith, c.parities-j-end.ensures)); column = c.requires.column; row = c.requires.row }
 
-pub overflow-add-count : goal.overflow-add-count
-overflow-add-count g c =
+pub overflow_add-count : goal.overflow_add-count
+overflow_add-count g c =
     let s = c.args.shape in
-    omega (arith, c.loop-j.invariant.reads, c.in-ok-count.ensures.reads, carried_low s (g.S.ColumnStore.view c.args.store.now) c.args.column c.args.row c.loop-j.j, count_low (rows_of s) (carries s (g.S.ColumnStore.view c.loop-j.store) c.args.column c.args.row (s.k + (c.loop-j.j + 1))), s.small, c.parities-j-end.ensures)
+    omega (arith, c.loop-j.invariant.reads, c.in_ok-count.ensures.reads, carried_low s (g.S.ColumnStore.view c.args.store.now) c.args.column c.args.row c.loop-j.j, count_low (rows_of s) (carries s (g.S.ColumnStore.view c.loop-j.store) c.args.column c.args.row (s.k + (c.loop-j.j + 1))), s.small, c.parities-j-end.ensures)
 
 pub loop-j-preserved : goal.loop-j-preserved
-loop-j-preserved g c = parities_more g.X.Symbol.plus c.args.change c.args.shape c.args.column c.args.row _ _ _ _ _ _ c.requires.fits (omega arith) c.loop-j.invariant c.in-ok-count.ensures
+loop-j-preserved g c = parities_more g.X.Symbol.plus c.args.change c.args.shape c.args.column c.args.row _ _ _ _ _ _ c.requires.fits (omega arith) c.loop-j.invariant c.in_ok-count.ensures
 
 pub returns : goal.returns
 returns g c = parities_all g.X.Symbol.plus c.args.change c.args.shape c.args.column c.args.row _ _ _ _ c.requires.fits (omega arith) c.loop-j.invariant

@@ -3,8 +3,8 @@ use Rattle.code.specs.Shapes.{rows_of, classes_of}
 use Rattle.code.proofs.Bounds.{classes_pos, positions_are}
 use Rattle.updates.proofs.carrying.extra.Goals as goal
 
-pub nonzero-rem-result : goal.nonzero-rem-result
-nonzero-rem-result c = omega (arith, c.classes.ensures, classes_pos c.args.shape)
+pub nonzero_rem-result : goal.nonzero_rem-result
+nonzero_rem-result c = omega (arith, c.classes.ensures, classes_pos c.args.shape)
 
 pub returns : goal.returns
 returns c =

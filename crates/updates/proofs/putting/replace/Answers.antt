@@ -4,22 +4,22 @@ use Rattle.store.specs.View.{View}
 use Rattle.updates.proofs.Carries.{still_fits, put_leaves, carried_low}
 use Rattle.updates.proofs.putting.replace.Goals as goal
 
-pub change-parities-requires : goal.change-parities-requires
-change-parities-requires g c =
-    let m = c.in-ok-old.ensures.3 in
-    let W = c.in-ok-write.ensures.1 in
+pub change_parities-requires : goal.change_parities-requires
+change_parities-requires g c =
+    let m = c.in_ok-old.ensures.3 in
+    let W = c.in_ok-write.ensures.1 in
     record {
       fits = still_fits c.args.shape (g.S.ColumnStore.view c.args.store.now) (g.S.ColumnStore.view c.write.new.store) (W.columns ∙ ap (λ (v : View _). v.columns) m) (W.rows ∙ ap (λ (v : View _). v.rows) m) c.requires.fits;
       column = c.requires.column;
       row = c.requires.row;
     }
 
-pub overflow-add-result : goal.overflow-add-result
-overflow-add-result g c =
+pub overflow_add-result : goal.overflow_add-result
+overflow_add-result g c =
     let s = c.args.shape in
-    omega (arith, c.in-ok-rewritten.ensures.reads, carried_low s (g.S.ColumnStore.view c.write.new.store) c.args.column c.args.row (parities_of s))
+    omega (arith, c.in_ok-rewritten.ensures.reads, carried_low s (g.S.ColumnStore.view c.write.new.store) c.args.column c.args.row (parities_of s))
 
 pub returns : goal.returns
 returns g c =
     put_leaves g.X.Symbol.plus c.args.shape c.args.column c.args.row c.args.symbol _ _ _ _ _ _ _ c.requires.fits c.requires.column.0 c.requires.column.1 c.requires.row
-    c.in-ok-old.ensures.2 c.add.ensures c.in-ok-old.ensures.3 c.in-ok-write.ensures.1 c.in-ok-rewritten.ensures
+    c.in_ok-old.ensures.2 c.add.ensures c.in_ok-old.ensures.3 c.in_ok-write.ensures.1 c.in_ok-rewritten.ensures
