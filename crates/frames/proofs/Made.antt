@@ -1,5 +1,5 @@
 -- What new frames mean.
-use Rattle.std.proofs.Common.{◌≡◌, ℕ, Bool, true, cond, List, length, is_some, Some, None, sym, refl, ap, ◌∙◌, ap₂, arith, Bor}
+use Rattle.std.proofs.Common.{◌≡◌, ℕ, Bool, true, cond, List, length, is_some, Some, None, sym, refl, ap, ◌∙◌, ap₂, arith, MutBor}
 use Rattle.code.specs.declared.refusal.Refusal.{Refusal}
 use Rattle.code.specs.declared.shape.Shape.{Shape}
 use Rattle.code.specs.Shapes.{columns_of, rows_of}
@@ -11,7 +11,7 @@ use Rattle.frames.specs.declared.frames.Frames.{Frames}
 use Rattle.frames.proofs.Places.{rows_some, is_whole_from}
 use Rattle.frames.proofs.Sound.{sound, never}
 
-module _ {X : Type 0} (none : X) (w : ℕ) (symbol : List ℕ → X) (s : Shape) (x : Bor (List ℕ)) (kind : List X) where
+module _ {X : Type 0} (none : X) (w : ℕ) (symbol : List ℕ → X) (s : Shape) (x : MutBor (List ℕ)) (kind : List X) where
   abbrev made : ℕ → ℕ → Frames X
   made m n = record { columns = m; rows = n; text = x; meter = 0; kind = kind }
 

@@ -4,8 +4,8 @@ use Rattle.array.proofs.Checked.{still_fits}
 use Rattle.audit.proofs.Compares.{matched_more, matched_all}
 use Rattle.audit.proofs.comparing.compare_parities.Goals as goal
 
-pub compare-parity-requires : goal.compare-parity-requires
-compare-parity-requires g c =
+pub compare_parity-requires : goal.compare_parity-requires
+compare_parity-requires g c =
     let s = c.args.shape in
     let view = g.S.ColumnStore.view in
     let e = c.loop-j.invariant.meter in
@@ -17,7 +17,7 @@ compare-parity-requires g c =
     }
 
 pub loop-j-preserved : goal.loop-j-preserved
-loop-j-preserved g c = matched_more _ _ _ _ _ _ _ _ _ c.loop-j.invariant c.in-ok-holds.ensures
+loop-j-preserved g c = matched_more _ _ _ _ _ _ _ _ _ c.loop-j.invariant c.in_ok-holds.ensures
 
 pub returns : goal.returns
 returns g c = matched_all _ _ _ _ _ _ _ _ (omega (arith, c.parities-j-end.ensures)) c.loop-j.invariant

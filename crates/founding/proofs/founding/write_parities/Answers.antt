@@ -4,15 +4,15 @@ use Rattle.columns.proofs.Passed.{passes_parity}
 use Rattle.founding.proofs.Together.{extended_more}
 use Rattle.founding.proofs.founding.write_parities.Goals as goal
 
-pub returns-in-err-write-parity : goal.returns-in-err-write-parity
-returns-in-err-write-parity g c =
+pub returns-in_err-write_parity : goal.returns-in_err-write_parity
+returns-in_err-write_parity g c =
     let s = c.args.shape in
     let v = g.S.ColumnStore.view c.loop-j.store in
     let fit = still_fits s (g.S.ColumnStore.view c.args.store.now) v c.requires.fits c.loop-j.invariant.columns c.loop-j.invariant.rows in
-    absurd (not_both _ _ (passes_parity s v (s.k + (c.loop-j.j + 1)) _ fit (omega arith) (omega (arith, c.parities-j-end.ensures)) c.requires.room) c.in-err-write-parity.ensures.0)
+    absurd (not_both _ _ (passes_parity s v (s.k + (c.loop-j.j + 1)) _ fit (omega arith) (omega (arith, c.parities-j-end.ensures)) c.requires.room) c.in_err-write_parity.ensures.0)
 
 pub loop-j-preserved : goal.loop-j-preserved
 loop-j-preserved g c =
     let s = c.args.shape in
     let v = g.S.ColumnStore.view c.args.store.now in
-    extended_more v (g.S.ColumnStore.view c.loop-j.store) (g.S.ColumnStore.view c.write-parity.new.store) s.k c.loop-j.j _ _ (omega (arith, wide s v c.requires.fits)) (omega (arith, long s v c.requires.fits)) c.loop-j.invariant c.in-ok-write-parity.ensures.1
+    extended_more v (g.S.ColumnStore.view c.loop-j.store) (g.S.ColumnStore.view c.write_parity.new.store) s.k c.loop-j.j _ _ (omega (arith, wide s v c.requires.fits)) (omega (arith, long s v c.requires.fits)) c.loop-j.invariant c.in_ok-write_parity.ensures.1

@@ -16,19 +16,19 @@ fill-requires g c =
       room = omega (arith, c.requires.room);
     }
 
-low : (g : given.Over) (c : goal.In-ok-count g) → c.in-ok-count.field-0 ≤ 4096
+low : (g : given.Over) (c : goal.In_ok-count g) → c.in_ok-count.field-0 ≤ 4096
 low g c =
     let u = c.args.plan.now in
-    filled_low g.X.Symbol.zero u.shape u.lost u.is_data.0 u.is_data.1 _ _ _ _ _ _ c.in-ok-count.ensures
+    filled_low g.X.Symbol.zero u.shape u.lost u.is_data.0 u.is_data.1 _ _ _ _ _ _ c.in_ok-count.ensures
 
-pub overflow-add-count : goal.overflow-add-count
-overflow-add-count g c = omega (arith, c.loop-c.invariant.0, low g c, c.requires.columns.0)
+pub overflow_add-count : goal.overflow_add-count
+overflow_add-count g c = omega (arith, c.loop-c.invariant.0, low g c, c.requires.columns.0)
 
 pub loop-c-preserved : goal.loop-c-preserved
 loop-c-preserved g c =
     let u = c.args.plan.now in (
       omega (arith, c.loop-c.invariant.0, low g c),
-      collected_more g.X.Symbol.zero u.shape u.lost u.is_data.0 u.is_data.1 _ _ _ _ _ _ _ _ c.loop-c.invariant.1 c.in-ok-count.ensures,
+      collected_more g.X.Symbol.zero u.shape u.lost u.is_data.0 u.is_data.1 _ _ _ _ _ _ _ _ c.loop-c.invariant.1 c.in_ok-count.ensures,
     )
 
 pub returns : goal.returns

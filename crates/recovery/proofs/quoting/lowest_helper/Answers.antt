@@ -5,8 +5,8 @@ use Rattle.repair.specs.Lists.{helper}
 use Rattle.array.proofs.Lowest.{lowest_more, lowest_here}
 use Rattle.recovery.proofs.quoting.lowest_helper.Goals as goal
 
-pub returns-then-is-lost-helper : goal.returns-then-is-lost-helper
-returns-then-is-lost-helper g c = sym (lowest_here (λ (d : ℕ). helper c.args.shape c.args.lost d && counts_as_lost (g.S.ColumnStore.view c.args.store.now) d) c.loop-c.c (columns_of c.args.shape) (omega (arith, c.columns-c-end.ensures)) c.loop-c.invariant (sym c.is-lost-helper.ensures ∙ c.if-is-lost-helper.true))
+pub returns-then-is_lost_helper : goal.returns-then-is_lost_helper
+returns-then-is_lost_helper g c = sym (lowest_here (λ (d : ℕ). helper c.args.shape c.args.lost d && counts_as_lost (g.S.ColumnStore.view c.args.store.now) d) c.loop-c.c (columns_of c.args.shape) (omega (arith, c.columns-c-end.ensures)) c.loop-c.invariant (sym c.is_lost_helper.ensures ∙ c.if-is_lost_helper.true))
 
 pub loop-c-preserved : goal.loop-c-preserved
-loop-c-preserved g c = lowest_more (λ (d : ℕ). helper c.args.shape c.args.lost d && counts_as_lost (g.S.ColumnStore.view c.args.store.now) d) c.loop-c.c c.loop-c.invariant (sym c.is-lost-helper.ensures ∙ c.if-is-lost-helper.false)
+loop-c-preserved g c = lowest_more (λ (d : ℕ). helper c.args.shape c.args.lost d && counts_as_lost (g.S.ColumnStore.view c.args.store.now) d) c.loop-c.c c.loop-c.invariant (sym c.is_lost_helper.ensures ∙ c.if-is_lost_helper.false)

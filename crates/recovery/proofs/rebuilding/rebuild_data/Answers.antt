@@ -22,4 +22,4 @@ collect-requires g c =
 pub returns : goal.returns
 returns g c =
     let (es, ef) = c.in-Some.ensures in
-    rebuilt_planned _ _ _ _ _ _ _ _ _ _ _ _ _ _ _ es ef c.columns.ensures c.rows-rows.ensures c.requires.lost.0 c.requires.lost.1 c.requires.fits c.in-ok-count.ensures c.in-ok-restore.ensures c.in-ok-admit.ensures.1 c.clear.ensures
+    rebuilt_planned _ _ _ _ _ _ _ _ _ _ _ _ _ _ _ es ef c.columns.ensures c.rows-rows.ensures c.requires.lost.0 c.requires.lost.1 c.requires.fits c.in_ok-count.ensures c.in_ok-restore.ensures c.in_ok-admit.ensures.1 c.clear.ensures
