@@ -2,9 +2,9 @@ use Rattle.std.proofs.Common.{rules}
 use Rattle.report.specs.Heads.{number_at}
 use Rattle.report.proofs.heads.number.Goals as goal
 
-pub returns-in-err-byte : goal.returns-in-err-byte
+pub returns-in_err-byte : goal.returns-in_err-byte
 unfolding number_at
-returns-in-err-byte c = search rules
+returns-in_err-byte c = search rules
 
 pub returns : goal.returns
 unfolding number_at

@@ -12,11 +12,11 @@ spend-requires g c =
     let s = c.args.array.now.shape in
     let v = g.S.ColumnStore.view c.args.store.now in
     let q = c.args.quote in
-    let room : length c.deref-mut.result.now ≡ work_of s = ap length (c.deref-mut.ensures.value ∙ c.in-ok-work.ensures.items-if-clones-equal (λ y e. e)) ∙ length-replicate (c.helpers.result * c.rows-rows.result) c.zero.result ∙ ap₂ ◌*◌ c.helpers.ensures c.rows-rows.ensures in
-    allowed s v q.column q.count (length c.deref-mut.result.now) c.requires.quoted c.requires.count (omega (arith, room))
+    let room : length c.deref_mut.result.now ≡ work_of s = ap length (c.deref_mut.ensures.value ∙ c.in_ok-work.ensures.items_if_clones_equal (λ y e. e)) ∙ length-replicate (c.helpers.result * c.rows-rows.result) c.zero.result ∙ ap₂ ◌*◌ c.helpers.ensures c.rows-rows.ensures in
+    allowed s v q.column q.count (length c.deref_mut.result.now) c.requires.quoted c.requires.count (omega (arith, room))
 
-pub put-summary-requires : goal.put-summary-requires
-put-summary-requires g c =
+pub put_summary-requires : goal.put_summary-requires
+put_summary-requires g c =
     let s = c.args.array.now.shape in
     let v = g.S.ColumnStore.view c.args.store.now in
     let q = c.args.quote in
@@ -30,4 +30,4 @@ returns g c =
     let q = c.args.quote in
     brought s q.column (count_of s q.column) (view c.args.store.now) (view c.spend.new.store) c.spend.new.work c.spend.ensures
     c.rows-rows.result c.column-column.result c.count-count.result c.rows-rows.ensures c.column-column.ensures (c.count-count.ensures ∙ c.requires.count)
-    (vec_items c.new-out.result) (vec_items c.put-frames.new.out) (vec_items c.put-summary.new.out) c.new-out.ensures.items c.in-ok-put-frames.ensures c.in-ok-put-summary.ensures
+    (vec_items c.new-out.result) (vec_items c.put_frames.new.out) (vec_items c.put_summary.new.out) c.new-out.ensures.items c.in_ok-put_frames.ensures c.in_ok-put_summary.ensures

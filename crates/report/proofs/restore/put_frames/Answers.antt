@@ -21,7 +21,7 @@ loop-row-preserved g c =
     let i = c.loop-row.row in
     let same = c.loop-row.invariant.1 in
     let here = c.symbol-symbol.ensures.is ∙ ap (λ (at : ℕ → ℕ → Byte). at f i) same.at in (
-      lines_more (λ r. present f r ((v c.args.store.now).at f r)) (vec_items c.args.out.now) (vec_items c.loop-row.out) (vec_items c.put-frame.new.out) i c.loop-row.invariant.0 (c.in-ok-put-frame.ensures ∙ ap (λ x. vec_items c.loop-row.out ++ present f i x) here),
+      lines_more (λ r. present f r ((v c.args.store.now).at f r)) (vec_items c.args.out.now) (vec_items c.loop-row.out) (vec_items c.put_frame.new.out) i c.loop-row.invariant.0 (c.in_ok-put_frame.ensures ∙ ap (λ x. vec_items c.loop-row.out ++ present f i x) here),
       read_more (v c.args.store.now) (v c.loop-row.store) (v c.symbol-symbol.new.store) same c.symbol-symbol.ensures.view,
     )
 

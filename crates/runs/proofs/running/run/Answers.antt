@@ -10,8 +10,8 @@ use Rattle.runs.proofs.running.run.Goals as goal
 pub loop-i-init : goal.loop-i-init
 loop-i-init g c = (chain_none g.S.ColumnStore.view g.X.Symbol.zero g.X.Symbol.plus c.args.array.now.shape c.args.calls.now _ _, λ j h. refl)
 
-pub offset-bounds-answers-i : goal.offset-bounds-answers-i
-offset-bounds-answers-i g c =
+pub offset_bounds-answers-i : goal.offset_bounds-answers-i
+offset_bounds-answers-i g c =
     let asked = c.min-count.ensures in
     let more = c.loop-i-test.true in
     let h : c.loop-i.i < length c.args.answers.now = omega arith in
