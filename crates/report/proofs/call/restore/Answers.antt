@@ -9,10 +9,10 @@ pub tell-requires : goal.tell-requires
 tell-requires c =
     let t = c.over-store.result in
     let o = c.over-store.ensures in
-    subst (λ (s : Shape). fits s (view_of t) ≡ true) (sym c.open-array.ensures) (fitting c.args.shape c.args.text.now _ t o.memory o.view c.requires)
+    subst (λ (s : Shape). fits s (view_of t) ≡ true) (sym c.open-array.ensures.shape) (fitting c.args.shape c.args.text.now _ t o.memory o.view c.requires)
 
 pub returns : goal.returns
 returns c =
     let t = c.over-store.result in
     let o = c.over-store.ensures in
-    subst (λ (out : List ℕ). IfOk c.tell.result (λ r. vec_items r ≡ out)) (ap (λ (s : Shape). told s (view_of t).lost (view_of t).at) c.open-array.ensures ∙ told_is c.args.shape c.args.text.now _ t o.memory o.view c.requires) c.tell.ensures
+    subst (λ (out : List ℕ). IfOk c.tell.result (λ r. vec_items r ≡ out)) (ap (λ (s : Shape). told s (view_of t).lost (view_of t).at) c.open-array.ensures.shape ∙ told_is c.args.shape c.args.text.now _ t o.memory o.view c.requires) c.tell.ensures
