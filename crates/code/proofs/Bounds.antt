@@ -1,10 +1,10 @@
 -- How large a shape's numbers are.
-use Rattle.std.proofs.Common.{◌≡◌, ℕ, suc, ◌+◌, ◌-◌, ◌*◌, ◌^◌, ◌<◌, ◌≤◌, true, false, cond, ltb, leb, sym, ap, ◌∙◌, mul-le-mul_right, mul-le-mul, mul-le-mul_left, one-mul, pow-suc, add-one, arith}
+use Rattle.std.proofs.Common.{◌≡◌, ℕ, suc, ◌+◌, ◌-◌, ◌*◌, ◌^◌, ◌≤◌, true, sym, ap, ◌∙◌, mul-le-mul_right, mul-le-mul, pow-suc, add-one, arith}
 use native.Mathlib.Nat.{one-le-pow, pow-le-pow_left, pow-le-pow_right}
 use Rattle.std.proofs.lemmas.Bool.Decides.{nat_tests}
 use Rattle.code.specs.declared.shape.Shape.{Shape}
-use Rattle.code.specs.Rules.{listed, one_of, classes, rows, shift}
-use Rattle.code.specs.Shapes.{parities_of, columns_of, helpers_of, classes_of, rows_of, positions_of, shift_of}
+use Rattle.code.specs.Rules.{listed, one_of}
+use Rattle.code.specs.Shapes.{parities_of, classes_of, rows_of, positions_of, shift_of}
 
 pub power_more : (q i x : ℕ) → x ≡ q ^ i → x * q ≡ q ^ (i + 1)
 power_more q i x e = ap (λ y. y * q) e ∙ sym (pow-suc q i) ∙ ap (λ n. q ^ n) (sym (add-one i))

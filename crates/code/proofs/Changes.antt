@@ -1,7 +1,7 @@
 -- What a change of one data symbol changes in the parities.
-use Rattle.std.proofs.Common.{◌≡◌, ℕ, suc, ◌+◌, ◌-◌, ◌*◌, ◌%◌, ◌<◌, ◌≤◌, Bool, cond, ◌||◌, eqb, sym, ap, ◌∙◌, subst, ap₂, mod-lt, arith}
-use Rattle.ring.specs.Sums.{CommutativeMonoid, sum_to}
-use Rattle.ring.specs.Cyclic.{symbol_at, shifted}
+use Rattle.std.proofs.Common.{◌≡◌, ℕ, suc, ◌+◌, ◌-◌, ◌*◌, ◌%◌, ◌<◌, ◌≤◌, Bool, cond, ◌||◌, eqb, ap, ◌∙◌, ap₂, mod-lt, arith}
+use Rattle.ring.specs.Sums.{CommutativeMonoid}
+use Rattle.ring.specs.Cyclic.{shifted}
 use Rattle.ring.proofs.Classes.{at_same}
 use Rattle.ring.proofs.Changes.{shift_meets, sum_changed, at_changed}
 use Rattle.code.specs.declared.shape.Shape.{Shape}

@@ -1,7 +1,7 @@
 -- An array whose parity rows are their sums is encoded: the sums hold at the extra symbols too.
 use Rattle.std.proofs.Common.{◌≡◌, ℕ, zero, suc, ◌+◌, ◌-◌, ◌*◌, ◌<◌, ◌≤◌, sym, refl, ap, ◌∙◌, ap₂, mod-lt, arith}
 use Rattle.ring.specs.Sums.{BooleanGroup, sum_to}
-use Rattle.ring.specs.Cyclic.{symbol_at, shifted, shifted_sum}
+use Rattle.ring.specs.Cyclic.{shifted, shifted_sum}
 use Rattle.ring.proofs.Classes.{at_same, parity_extends}
 use Rattle.code.specs.declared.shape.Shape.{Shape}
 use Rattle.code.specs.Shapes.{parities_of, classes_of, rows_of, positions_of, shift_of}

@@ -1,5 +1,5 @@
 -- The numbers of a shape, from k data columns, q helping parities and a prime p, and the rules that they keep.
-use Rattle.std.specs.Prelude.{ℕ, ◌+◌, ◌-◌, ◌*◌, ◌^◌, Bool, true, false, cond, not, ◌||◌, List, [], ◌∷◌, Some, None, Option, ◌==◌, nat_le, nat_lt}
+use Rattle.std.specs.Prelude.{ℕ, ◌+◌, ◌-◌, ◌*◌, ◌^◌, Bool, false, cond, not, ◌||◌, List, [], ◌∷◌, None, Option, ◌==◌, nat_le, nat_lt}
 use Rattle.code.specs.declared.refusal.Refusal.{Refusal}
 use Rattle.code.specs.declared.refusal.Refusal.TheVariants.{DataColumns, HelpingParities, NotListed, BelowParities, TooManyRows}
 use Rattle.code.specs.Refusals.{refuse}

@@ -6,7 +6,7 @@ use std::test::Fail;
 use store::{ColumnStore, Table};
 use symbol::{Byte, Symbol};
 
-// A founded array audits yes, with typeof.n.R reads, and no once a symbol of a data column or of a parity column is spoilt.
+// A founded array audits yes, with n·R reads, and no once a symbol of a data column or of a parity column is spoilt.
 #[test]
 fn spoilt_symbols(rt: HostRuntime) -> Result<(), Fail> {
     let shape = Shape::new(4, 2, 3)?;

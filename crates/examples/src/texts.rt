@@ -73,7 +73,7 @@ fn writes_in_place(rt: HostRuntime) -> Result<(), Fail> {
     assert_eq!(rt; check_text::<Byte>(shape, &text), Ok(()));
     let part = column_part::<Byte>(shape, &text, 5)?;
     assert_eq!(rt; part.len(), 104);
-    assert!(rt; &part[0..26] == b"L 05 0000 00\nL 05 0001 5A\n");
+    assert!(rt; &part[0..26] == b"L 05 0000 00\nL 05 0001 5A\n".as_slice());
     Ok(())
 }
 

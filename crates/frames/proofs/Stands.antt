@@ -7,7 +7,7 @@ use Rattle.symbol.specs.Kinds.{from_digits}
 use Rattle.symbol.proofs.Digits.{hex_back, hex_there, hex_long, length_hex, length_unhex, hex_is_hex, unhex_octets}
 use Rattle.code.specs.Places.{place_of}
 use Rattle.frames.specs.Lines.{stride, part, line_at, mark_at, digits_at}
-use Rattle.frames.specs.Format.{mark_of, frame, frame_of, lines, marks_in, symbols_in}
+use Rattle.frames.specs.Format.{mark_of, frame, frame_of, marks_in, symbols_in}
 use Rattle.frames.specs.Checks.{is_mark, is_frame, text_refusal, Real, Renders, Passes, Back, There}
 use Rattle.frames.proofs.Places.{column_low, line_place, place_low, place_column, place_row}
 use Rattle.frames.proofs.Lined.{length_lines, part_lines, lines_from}

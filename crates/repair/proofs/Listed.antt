@@ -7,9 +7,9 @@ use Rattle.ring.specs.Cyclic.{Covers}
 use Rattle.ring.proofs.Window.{window}
 use Rattle.code.specs.declared.shape.Shape.{Shape}
 use Rattle.code.specs.Shapes.{classes_of, rows_of}
-use Rattle.repair.specs.Halves.{first_half, depth, near, round, span}
+use Rattle.repair.specs.Halves.{first_half, depth, near, span}
 use Rattle.repair.specs.Steps.{step}
-use Rattle.repair.specs.Rows.{chosen, position, Needs}
+use Rattle.repair.specs.Rows.{chosen, Needs}
 use Rattle.repair.specs.Lists.{helper, helping, home, added}
 use Rattle.repair.specs.Laws.{NeededIsListed}
 use Rattle.repair.proofs.Rounds.{moved_to, need_there, need_back}

@@ -8,7 +8,7 @@ use Rattle.code.proofs.Bounds.{prime_low}
 use Rattle.code.proofs.Bounds as C
 use Rattle.sums.specs.Sums.{symbol_in_cells}
 use Rattle.repair.specs.declared.plan.Plan.{Plan}
-use Rattle.repair.specs.Halves.{depth, near, round, span}
+use Rattle.repair.specs.Halves.{depth, near, span}
 use Rattle.repair.specs.Lists.{added, helper, slot, area}
 use Rattle.repair.specs.Rows.{block, chosen, position, addend}
 use Rattle.repair.specs.Steps.{step, gap}

@@ -1,7 +1,7 @@
 -- What holds of every ring of p blocks of t positions, whatever code is laid over it.
-use Rattle.std.specs.Prelude.{◌≡◌, ℕ, suc, ◌+◌, ◌-◌, ◌*◌, ◌%◌, ◌<◌, ◌≤◌}
+use Rattle.std.specs.Prelude.{◌≡◌, ℕ, suc, ◌+◌, ◌*◌, ◌%◌, ◌<◌}
 use Rattle.ring.specs.Sums.{BooleanGroup, sum_to}
-use Rattle.ring.specs.Cyclic.{class_total, symbol_at, shifted, shifted_sum}
+use Rattle.ring.specs.Cyclic.{symbol_at, shifted, shifted_sum}
 
 -- a shift takes the positions of one class to the positions of one class
 abbrev pub ShiftsKeepClasses : Type 0

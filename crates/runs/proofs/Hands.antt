@@ -1,5 +1,5 @@
 -- Slots of the hand.
-use Rattle.std.proofs.Common.{◌≡◌, ℕ, get_or, set, Some, None, Option, sym, ap, ◌∙◌}
+use Rattle.std.proofs.Common.{◌≡◌, ℕ, set, Some, None, sym, ap, ◌∙◌}
 use Rattle.std.proofs.lemmas.List.{set-set, set-get_or}
 use Rattle.recovery.specs.declared.quotes.Quote.{Quote}
 use Rattle.runs.specs.Hands.{Hand, quote_at, without, holding}

@@ -8,7 +8,6 @@ use Rattle.updates.specs.Updates.{Gets, TellsTable}
 use Rattle.recovery.specs.Rebuild.{Rebuilds}
 use Rattle.recovery.specs.declared.quotes.Quote.{Quote}
 use Rattle.recovery.specs.declared.quotes.Rejected.{Rejected}
-use Rattle.runs.specs.declared.calls.Call.{Call}
 use Rattle.runs.specs.declared.calls.Call.TheVariants.{Get}
 use Rattle.runs.specs.declared.calls.Answer.{Answer}
 use Rattle.runs.specs.declared.calls.Answer.TheVariants.{Symbol, Unmade}

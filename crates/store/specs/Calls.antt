@@ -1,6 +1,6 @@
 -- What each call of a column store answers and leaves: s is the store before the call, s' after it. A refusal leaves the
 -- store itself as it was. A place outside is refused before a lost column.
-use Rattle.std.specs.Prelude.{◌≡◌, ℕ, ◌<◌, ◌≤◌, Bool, true, false, ◌⊎◌, Ok, Err, Result}
+use Rattle.std.specs.Prelude.{◌≡◌, ℕ, true, false, ◌⊎◌, Ok, Err, Result}
 use Rattle.code.specs.declared.refusal.Refusal.{Refusal}
 use Rattle.code.specs.declared.refusal.Refusal.TheVariants.{NoSuchPlace, ColumnLost}
 use Rattle.store.specs.View.{View, Column, Inside, metered, Written, Dropped, Admitted}

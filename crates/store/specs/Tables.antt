@@ -1,5 +1,5 @@
 -- What a table means: its columns stand one after another in the lent memory.
-use Rattle.std.specs.Prelude.{◌≡◌, ℕ, ◌+◌, ◌-◌, ◌*◌, ◌^◌, ◌<◌, ◌≤◌, Bool, true, false, cond, List, length, Some, None, Ok, Err, Option, Result, nat_lt, slice_index_or}
+use Rattle.std.specs.Prelude.{◌≡◌, ℕ, ◌-◌, ◌*◌, false, cond, List, length, Some, None, Ok, Err, Option, Result, nat_lt, slice_index_or}
 use Rattle.code.specs.declared.refusal.Refusal.{Refusal}
 use Rattle.code.specs.declared.refusal.Refusal.TheVariants.{TableTooSmall}
 use Rattle.code.specs.declared.shape.Shape.{Shape}

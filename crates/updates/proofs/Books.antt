@@ -1,24 +1,24 @@
 -- Puts and gets keep the book.
-use Rattle.std.proofs.Common.{◌≡◌, ℕ, ◌+◌, ◌-◌, ◌<◌, ◌≤◌, Bool, true, false, cond, not, ◌&&◌, ◌||◌, eqb, ltb, leb, is_ok, Some, None, Ok, Err, Option, Result, sym, refl, ap, ◌∙◌, subst, ap₂, inl, inr, arith}
+use Rattle.std.proofs.Common.{◌≡◌, ℕ, ◌-◌, ◌<◌, ◌≤◌, Bool, true, false, cond, ◌&&◌, eqb, is_ok, Some, None, Ok, Err, Option, Result, sym, refl, ap, ◌∙◌, subst, ap₂, inl, inr, arith}
 use Rattle.std.proofs.lemmas.Bool.{cases_lt, cases_eq, eq-eqb, ne_eqb, le-leb, lt-leb, lt-ltb, le-ltb}
 use Rattle.std.proofs.lemmas.Bool.Decides.{nat_tests}
 use Rattle.ring.specs.Sums.{BooleanGroup}
 use Rattle.ring.proofs.Sums.{self_l}
 use Rattle.code.specs.declared.refusal.Refusal.{Refusal}
 use Rattle.code.specs.declared.shape.Shape.{Shape}
-use Rattle.code.specs.Shapes.{parities_of, columns_of, rows_of, positions_of}
+use Rattle.code.specs.Shapes.{parities_of, rows_of}
 use Rattle.code.specs.Parities.{parity_of, takes_in}
 use Rattle.code.proofs.Bounds.{positions_are}
 use Rattle.code.proofs.Changes.{parity_changed}
-use Rattle.store.specs.View.{View, Column, Inside, counts_as_lost, metered}
+use Rattle.store.specs.View.{View, Inside}
 use Rattle.store.specs.Calls.{Reads, Unread}
 use Rattle.array.specs.Checks.{fits}
-use Rattle.array.specs.Book.{Book, Agrees, Keeps, puts, looks, with_symbol, put_in, built}
+use Rattle.array.specs.Book.{Keeps, puts, looks, with_symbol, put_in, built}
 use Rattle.array.specs.Steps.{Stepped, Accepts}
 use Rattle.array.proofs.Books.{read_on}
 use Rattle.array.proofs.Checked.{wide, long, is_present}
 use Rattle.updates.specs.Views.{Leaves}
-use Rattle.updates.specs.Updates.{place_refusal, carries, put_symbols, put_reads, Put, Puts, Gets, TellsTable}
+use Rattle.updates.specs.Updates.{place_refusal, put_symbols, put_reads, Put, Puts, Gets, TellsTable}
 
 not_both : true ≡ false → ⊥
 not_both e = let z : ◌≡◌ {A = ℕ} 0 1 = cc in omega arith

@@ -1,5 +1,5 @@
 -- How a change goes into the parities, one position, one parity, one turn of the loop at a time.
-use Rattle.std.proofs.Common.{◌≡◌, ℕ, zero, suc, ◌+◌, ◌-◌, ◌*◌, ◌%◌, ◌^◌, ◌<◌, ◌≤◌, Bool, true, false, cond, not, ◌&&◌, ◌||◌, eqb, ltb, leb, Some, None, Option, sym, refl, ap, ◌∙◌, subst, ap₂, inl, inr, add_assoc, mod-lt, mod-eq_of_lt, add-one, arith}
+use Rattle.std.proofs.Common.{◌≡◌, ℕ, zero, suc, ◌+◌, ◌-◌, ◌*◌, ◌%◌, ◌^◌, ◌<◌, ◌≤◌, Bool, true, false, cond, not, ◌&&◌, ◌||◌, eqb, ltb, leb, Some, None, sym, refl, ap, ◌∙◌, subst, ap₂, inl, inr, add_assoc, mod-lt, mod-eq_of_lt, add-one, arith}
 use native.Mathlib.Nat.{mod-add-mod}
 use Rattle.std.proofs.lemmas.Bool.{cases_eq, eq-eqb, ne_eqb}
 use Rattle.std.proofs.lemmas.Bool.Decides.{nat_tests}
@@ -13,9 +13,9 @@ use Rattle.code.proofs.Bounds.{classes_pos, positions_are, shift_low}
 use Rattle.store.specs.View.{View, Column, Inside, counts_as_lost, metered, Written}
 use Rattle.array.specs.Checks.{fits}
 use Rattle.array.specs.Book.{with_symbol}
-use Rattle.array.proofs.Checked.{wide, long}
+use Rattle.array.proofs.Checked.{wide}
 use Rattle.updates.specs.Views.{Leaves, adding, Added}
-use Rattle.updates.specs.Updates.{carries, carried, put_symbols, put_reads, Put}
+use Rattle.updates.specs.Updates.{carries, carried, Put}
 
 pub shift_known : (s : Shape) (j c x : ℕ) → 1 ≤ j → j ≤ parities_of s → 1 ≤ c → c ≤ s.k → Some x ≡ cond (is_shifted s j c) (Some (shift_of s j c)) None → x ≡ shift_of s j c
 shift_known s j c x j₁ j₂ c₁ c₂ e = let there : is_shifted s j c ≡ true = grind (arith, nat_tests) in taken (is_shifted s j c) there e

@@ -1,4 +1,4 @@
-use Rattle.std.proofs.Common.{◌<◌, ◌≢◌, length, ◌∙◌, arith, get_or-set_other, get_or-set_same, rules, below_more}
+use Rattle.std.proofs.Common.{◌<◌, ◌≢◌, length, arith, get_or-set_other, get_or-set_same, rules, below_more}
 use Rattle.sums.proofs.parity.shifts.Goals as goal
 
 pub loop-i-preserved : goal.loop-i-preserved

@@ -1,4 +1,4 @@
-use Rattle.std.proofs.Common.{◌≡◌, ◌+◌, ◌%◌, ◌≤◌, sym, refl, ap, ◌∙◌, ap₂, arith}
+use Rattle.std.proofs.Common.{◌+◌, ◌%◌, ◌≤◌, sym, refl, ap, ◌∙◌, ap₂, arith}
 use Rattle.code.specs.Shapes.{positions_of}
 use Rattle.array.proofs.Checked.{wide, long, is_present}
 use Rattle.updates.proofs.Carries.{really_lost, parity_lost, parity_present}

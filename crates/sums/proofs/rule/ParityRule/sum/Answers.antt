@@ -1,4 +1,4 @@
-use Rattle.std.proofs.Common.{◌∙◌, ap₂, add-one, arith, rules}
+use Rattle.std.proofs.Common.{◌∙◌, ap₂, add-one}
 use Rattle.sums.proofs.rule.ParityRule.sum.Goals as goal
 
 pub loop-i-preserved : goal.loop-i-preserved
