@@ -4,6 +4,7 @@
     tools/reference.py vectors < crates/vectors/stdin   prints what crates/vectors must print
     tools/reference.py damages                          prints the damaged texts of crates/vectors/stdin
     tools/reference.py demo                             prints what crates/demo must print
+    tools/reference.py sales                            prints what crates/sales must print
     tools/reference.py rebuild < INPUT                  writes what the program rebuild must write (docs/PROGRAM.md)
 
 A symbol is an integer here (stock in the high 16 bits of a stand, cash in the low 32), a column is a list of them, and
@@ -275,6 +276,36 @@ def vectors(lines):
 
 
 def demo():
+    shape = Shape(4, 2, 5)
+    print(f"A route of {shape.n} boards: {shape.k} carry data, {shape.r} carry parity.")
+    print(
+        f"Shape k {shape.k}, q {shape.q}, p {shape.p}: {shape.rows} rows in {shape.t} classes, "
+        f"a ring of {shape.ring} positions."
+    )
+    print(f"A lost data column has {shape.d} helpers.")
+    seed = lambda column, row: column * 37 + row * 11
+    data = [
+        [(seed(c, r) % 60) << 32 | seed(c, r) * 25 for r in range(shape.rows)] for c in range(1, shape.k + 1)
+    ]
+    print(f"Founded with {shape.k * shape.rows} reads; the meter stands at {shape.k * shape.rows}.")
+    print("Stock and cash of rows 0 to 3:")
+    columns = data + parities(shape, data)
+    tell = lambda number: print(
+        f"column {number:2}:" + "".join(f"  {s >> 32:5} {s % 2**32:6}" for s in columns[number - 1][:4])
+    )
+    for number in range(1, shape.n + 1):
+        tell(number)
+    for lost in (2, 7):
+        count = len(reading_list(shape, lost))
+        print(
+            f"Board {lost} dies. Its column is quoted at {count} reads; "
+            f"whole columns would take {shape.k * shape.rows}."
+        )
+        print(f"Rebuilt; the meter moved by {count}.")
+        tell(lost)
+
+
+def sales():
     """A day on the route: told from the data columns alone, whose parity columns are worked out whenever one is shown."""
     shape = Shape(4, 2, 5)
     print(f"A route of {shape.n} boards: {shape.k} carry data, {shape.r} carry parity.")
@@ -359,6 +390,8 @@ if __name__ == "__main__":
         damages()
     elif sys.argv[1:] == ["demo"]:
         demo()
+    elif sys.argv[1:] == ["sales"]:
+        sales()
     elif sys.argv[1:] == ["rebuild"]:
         sys.stdout.buffer.write(answer(sys.stdin.buffer.read()))
     else:
