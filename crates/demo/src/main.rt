@@ -4,8 +4,7 @@
 use anyhow::anyhow;
 use array::Array;
 use code::{Refusal, Shape};
-use founding::found;
-use recovery::{lose, lost_column, quote, rebuild};
+use recovery::{found, lose, lost_column, quote, rebuild};
 use std::io;
 use store::{ColumnStore, Table};
 use symbol::{Stand, Symbol};

@@ -4,7 +4,7 @@
 #[cfg(test)]
 mod auditing;
 #[cfg(test)]
-mod founding;
+mod foundings;
 #[cfg(test)]
 mod kinds;
 #[cfg(test)]

@@ -1,12 +1,12 @@
 -- Founding: when it is refused, and what it leaves.
-use Rattle.std.specs.Prelude.{◌≡◌, ℕ, ◌+◌, ◌%◌, ◌^◌, ◌<◌, ◌≤◌, false, List, length, Some, None, Ok, Err, Result}
+use Rattle.std.specs.Prelude.{◌≡◌, ℕ, ◌+◌, ◌*◌, ◌%◌, ◌^◌, ◌<◌, ◌≤◌, false, List, length, Some, None, Ok, Err, Result}
 use Rattle.code.specs.declared.refusal.Refusal.{Refusal}
 use Rattle.code.specs.declared.shape.Shape.{Shape}
 use Rattle.code.specs.Shapes.{parities_of, rows_of}
 use Rattle.code.specs.Parities.{parity_of, Encoded}
 use Rattle.store.specs.View.{View, Column}
 use Rattle.array.specs.Checks.{Cleared}
-use Rattle.columns.specs.Columns.{data_of, found_refusal}
+use Rattle.columns.specs.Columns.{found_refusal}
 
 -- columns k + 1 to k + n are present and their first m rows are F's, and the first k columns are as they were
 pub record Extended {X : Type 0} (g : View X) (k n m : ℕ) (F : ℕ → ℕ → X) (h : View X) : Type 0 where
@@ -21,8 +21,8 @@ pub record Extended {X : Type 0} (g : View X) (k n m : ℕ) (F : ℕ → ℕ →
 
 -- what an accepted founding answers and leaves: g is the store's view before it, h after it
 pub record Founded {X : Type 0} (none : X) (plus : X → X → X) (s : Shape) (g : View X) (n : ℕ) (h : View X) (work : List X) : Type 0 where
-  pub reads : n ≡ data_of s
-  pub meter : h.meter ≡ (g.meter + data_of s) % 2 ^ 64
+  pub reads : n ≡ s.k * rows_of s
+  pub meter : h.meter ≡ (g.meter + s.k * rows_of s) % 2 ^ 64
   pub columns : h.columns ≡ g.columns
   pub rows : h.rows ≡ g.rows
   pub lender : h.lender ≡ g.lender

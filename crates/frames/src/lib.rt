@@ -5,9 +5,9 @@ mod checks;
 mod columns;
 mod edits;
 mod frame;
+mod frame_store;
 mod frames;
 mod lines;
-mod store;
 
 pub use checks::check;
 pub use columns::column_part;

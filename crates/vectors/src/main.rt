@@ -7,9 +7,8 @@
 use anyhow::anyhow;
 use array::Array;
 use code::{Refusal, Shape};
-use founding::{found, found_in};
 use frames::{Frames, check};
-use recovery::{lose, lost_column, quote, rebuild};
+use recovery::{found, found_in, lose, lost_column, quote, rebuild};
 use std::alloc::Global;
 use store::{ColumnStore, Table};
 use symbol::{Byte, Stand, Symbol};

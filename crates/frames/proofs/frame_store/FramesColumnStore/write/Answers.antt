@@ -1,5 +1,5 @@
 use Rattle.frames.proofs.Views.{wrote_at}
-use Rattle.frames.proofs.store.FramesColumnStore.write.Goals as goal
+use Rattle.frames.proofs.frame_store.FramesColumnStore.write.Goals as goal
 
 pub returns : goal.returns
 returns g c =

@@ -1,7 +1,7 @@
 use Rattle.std.proofs.Common.{refl}
 use Rattle.frames.specs.Stores.{frames_view}
 use Rattle.frames.proofs.Views.{admits}
-use Rattle.frames.proofs.store.FramesColumnStore.admit.Goals as goal
+use Rattle.frames.proofs.frame_store.FramesColumnStore.admit.Goals as goal
 
 pub returns : goal.returns
 returns g c =

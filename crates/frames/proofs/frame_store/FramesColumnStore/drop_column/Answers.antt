@@ -1,7 +1,7 @@
 use Rattle.std.proofs.Common.{refl}
 use Rattle.frames.specs.Stores.{frames_view}
 use Rattle.frames.proofs.Views.{drops}
-use Rattle.frames.proofs.store.FramesColumnStore.drop_column.Goals as goal
+use Rattle.frames.proofs.frame_store.FramesColumnStore.drop_column.Goals as goal
 
 pub returns : goal.returns
 returns g c =
