@@ -32,7 +32,7 @@ pub record Founded {X : Type 0} (none : X) (plus : X → X → X) (s : Shape) (g
   pub encoded : Encoded none plus s h.at
   pub cleared : Cleared none work
 
--- s is the store before the call, s' after it. The store's own refusal of a step (16) comes in no case: found-refusal
+-- s is the store before the call, s' after it. The store's own refusal of a step (16) comes in no case: found_refusal
 -- never gives it.
 abbrev pub Founds : {S X : Type 0} (view : S → View X) (none : X) (plus : X → X → X) → Shape → S → List X → Result ℕ Refusal → S → List X → Type 0
 Founds view none plus shape s work (Ok n) s' work' = (found_refusal shape (view s) (length work) ≡ None) × Founded none plus shape (view s) n (view s') work'

@@ -1,4 +1,4 @@
--- Classes and shifts. Only `at_rest`, `class-law` and `parity-extra` use that a symbol is its own opposite.
+-- Classes and shifts. Only `at_rest`, `class_law` and `parity_extra` use that a symbol is its own opposite.
 use Rattle.std.proofs.Common.{◌≡◌, ℕ, suc, ◌+◌, ◌-◌, ◌*◌, ◌/◌, ◌%◌, ◌<◌, ◌≤◌, sym, refl, ap, ◌∙◌, subst, ap₂, inl, inr, mod-lt, div-lt_iff_lt-mul, mul-le-mul_left, div-add-mod', arith}
 use native.Mathlib.Nat.{add-sub_cancel_left, mod-add-mod}
 use lib.Arith.{digits_lt, digits_div, digits_mod}

@@ -16,7 +16,7 @@ digit_is v h = grind (arith, nat_tests)
 pub worth_small : (b : ℕ) → is_digit b ≡ true → worth b < 16
 worth_small b h = grind (arith, nat_tests)
 
--- what is-hex says
+-- what is_hex says
 pub hex_long : (n : ℕ) (s : List ℕ) → is_hex n s ≡ true → length s ≡ n
 hex_long n s h = grind (arith, nat_tests)
 
