@@ -3,8 +3,8 @@
 
     tools/trace.py < crates/trace/stdin            prints what crates/trace must print
     tools/trace.py draw COUNT CALLS SEED           draws COUNT runs of CALLS calls each, for crates/trace/stdin
-    tools/trace.py compare COUNT CALLS SEED        draws such runs, plays them by target/bin/trace and here, and compares
-                                                   the answers call by call; after `rt check trace`
+    tools/trace.py compare COUNT CALLS SEED        draws such runs, plays them by crates/trace/out/trace and here, and
+                                                   compares the answers call by call; after `rt run` in crates/trace
 
 The rules are those of docs/CODE.md and docs/REFUSALS.md; the lines are told in crates/trace/src/main.rt.
 """
@@ -15,7 +15,7 @@ import sys
 
 import reference
 
-PROGRAM = pathlib.Path(__file__).resolve().parent.parent / "target/bin/trace"
+PROGRAM = pathlib.Path(__file__).resolve().parent.parent / "crates/trace/out/trace"
 SLOTS = 4
 WIDTH = {"byte": 1, "stand": 6}
 
