@@ -7,7 +7,7 @@ ghost use Rattle.code.specs.Shapes.{columns_of, rows_of};
 ghost use Rattle.store.specs.Calls.{Reads, Writes, Drops, Admits};
 ghost use Rattle.frames.specs.Lines.{stride as stride_of, part, Placed};
 ghost use Rattle.frames.specs.Checks.{text_refusal, is_mark};
-ghost use Rattle.frames.specs.Stores.{counts as CountsOf, frames_view, Over, WellFormed, Stays, Remarks, Marks, Puts};
+ghost use Rattle.frames.specs.Stores.{counts as counts_of, frames_view, Over, WellFormed, Stays, Remarks, Marks, Puts};
 ghost use Rattle.frames.specs.Small.{meter_small};
 
 use crate::checks::check;
@@ -45,7 +45,7 @@ impl<'a, X: Symbol> Frames<'a, X> {
 
     // Whether the text has the length that the columns and rows ask.
     fn counts(&self) -> bool
-        ensures { result ≡ CountsOf X.Symbol.width self.now }
+        ensures { result ≡ counts_of X.Symbol.width self.now }
     {
         whole(stride::<X>(), self.columns, self.rows, self.text.len())
     }

@@ -2,7 +2,7 @@
 ghost use Rattle.std.specs.Prelude.{◌≡◌, ℕ, ◌+◌, ◌<◌, ◌≤◌, true, false, length};
 ghost use Rattle.array.specs.Checks.{work_of};
 ghost use Rattle.code.specs.Shapes.{rows_of};
-ghost use Rattle.repair.specs.Lists.{helper as helper_of, listed as ListedOf, area as area_of};
+ghost use Rattle.repair.specs.Lists.{helper as helper_of, listed as listed_of, area as area_of};
 ghost use Rattle.repair.specs.Rows.{rebuilt as rebuilt_of};
 ghost use Rattle.store.specs.View.{Inside, Column};
 ghost use Rattle.array.specs.Steps.{Accepts};
@@ -49,7 +49,7 @@ fn fetch<X: Symbol, S: ColumnStore<X>>(
     requires rows { rows ≤ (S.ColumnStore.view store.old).rows }
     requires present { (S.ColumnStore.view store.old).lost column ≡ false }
     requires room { start + rows ≤ length work.old }
-    ensures { Accepts (λ n. Fetched X.Symbol.zero (S.ColumnStore.view store.old) (ListedOf plan.now.shape plan.now.lost column) column rows start work.old n (S.ColumnStore.view store.new) work.new) result }
+    ensures { Accepts (λ n. Fetched X.Symbol.zero (S.ColumnStore.view store.old) (listed_of plan.now.shape plan.now.lost column) column rows start work.old n (S.ColumnStore.view store.new) work.new) result }
 {
     let mut count = 0;
     for row in 0..rows {

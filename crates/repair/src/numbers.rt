@@ -2,7 +2,7 @@
 ghost use Rattle.std.specs.Prelude.{◌≡◌, ℕ, ◌+◌, ◌<◌, ◌≤◌, cond, length, slice_index};
 ghost use Rattle.code.specs.Shapes.{parities_of};
 ghost use Rattle.repair.specs.Halves.{first_half as is_first_half, depth as depth_of};
-ghost use Rattle.repair.specs.Steps.{step as step_of_lem};
+ghost use Rattle.repair.specs.Steps.{step as step_of};
 ghost use Rattle.repair.specs.Lists.{formula};
 ghost use Rattle.repair.specs.Plans.{PlanOf};
 
@@ -31,7 +31,7 @@ fn steps(shape: Shape, lost: usize, first_half: bool) -> [usize; 12]
     requires lost { (1 ≤ lost) × (lost ≤ shape.k) }
     requires half { first_half ≡ is_first_half shape lost }
     ensures twelve { length result ≡ 12 }
-    ensures are { (i : ℕ) → i < shape.k → slice_index result i ≡ step_of_lem shape lost (i + 1) }
+    ensures are { (i : ℕ) → i < shape.k → slice_index result i ≡ step_of shape lost (i + 1) }
 {
     match ParityRule::of(shape, unit_parity(shape, first_half)) {
         Some(rule) => rule.shifts(),

@@ -1,6 +1,6 @@
 // The helpers, and the reading list.
 ghost use Rattle.std.specs.Prelude.{◌≡◌, ◌≤◌};
-ghost use Rattle.repair.specs.Halves.{near as NearOf};
+ghost use Rattle.repair.specs.Halves.{near as near_of};
 ghost use Rattle.repair.specs.Lists.{helper as is_helper, helping as is_helping, added as is_added, listed as is_listed};
 
 use crate::plan::Plan;
@@ -31,7 +31,7 @@ impl Plan {
     // The number of a data column counted from the lost column's end.
     fn near(&self, column: usize) -> usize
         requires { (1 ≤ column) × (column ≤ self.now.shape.k) }
-        ensures is { result ≡ NearOf self.now.shape self.now.lost column }
+        ensures is { result ≡ near_of self.now.shape self.now.lost column }
         ensures low { 1 ≤ result }
     {
         if self.first_half {

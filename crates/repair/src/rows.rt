@@ -3,8 +3,8 @@ ghost use Rattle.std.specs.Prelude.{◌≡◌, ◌+◌, ◌*◌, ◌<◌, ◌≤
 ghost use Rattle.ring.specs.Cyclic.{shifted as shifted_from};
 ghost use Rattle.code.specs.Shapes.{helpers_of, rows_of, positions_of};
 ghost use Rattle.code.specs.Parities.{symbol_of};
-ghost use Rattle.repair.specs.Rows.{block as BlockOf, chosen, position as position_of};
-ghost use Rattle.repair.specs.Steps.{step as step_of_lem, gap as gap_of};
+ghost use Rattle.repair.specs.Rows.{block as block_of, chosen, position as position_of};
+ghost use Rattle.repair.specs.Steps.{step as step_of, gap as gap_of};
 ghost use Rattle.repair.specs.Lists.{area};
 ghost use Rattle.repair.specs.Plans.{row_from};
 
@@ -14,7 +14,7 @@ use symbol::Symbol;
 impl Plan {
     // The block of its round that a row is in.
     fn block(&self, row: usize) -> usize
-        ensures is { result ≡ BlockOf self.now.shape self.now.lost row }
+        ensures is { result ≡ block_of self.now.shape self.now.lost row }
         ensures low { result < self.now.shape.q }
     {
         row % self.round / self.span
@@ -59,7 +59,7 @@ impl Plan {
         requires column { i < self.now.shape.k }
         requires gap { gap < self.now.shape.q }
         requires position { position < positions_of self.now.shape }
-        ensures { result ≡ (if nat_eq (i + 1) self.now.lost then X.Symbol.zero else symbol_of X.Symbol.zero X.Symbol.plus self.now.shape (area X.Symbol.zero self.now.shape self.now.lost work.now (i + 1)) (shifted_from (positions_of self.now.shape) (gap * step_of_lem self.now.shape self.now.lost (i + 1)) position)) }
+        ensures { result ≡ (if nat_eq (i + 1) self.now.lost then X.Symbol.zero else symbol_of X.Symbol.zero X.Symbol.plus self.now.shape (area X.Symbol.zero self.now.shape self.now.lost work.now (i + 1)) (shifted_from (positions_of self.now.shape) (gap * step_of self.now.shape self.now.lost (i + 1)) position)) }
     {
         if i + 1 == self.lost {
             return X::zero();

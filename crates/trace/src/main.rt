@@ -2,7 +2,7 @@
 // `KIND STORE k q p seed;CALL;CALL;..`: the data symbols of a new array are drawn from the seed. Calls are `F` (found),
 // `P column row digits` (put), `G column row` (get), `L column` (lose), `Q column slot` (quote), `B slot` (rebuild), `A`
 // (audit) and `?` (the question). `X k q p column slot` puts a quote of another array into the hand before the calls.
-// tools/reference.py works out the same lines on its own.
+// tools/trace.py works out the same lines on its own.
 #![tactic(auto)]
 
 mod input;
