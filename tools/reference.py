@@ -275,7 +275,18 @@ def vectors(lines):
             print(f"  text {fnv_bytes(text_of(shape, columns, (), width).encode()):08X}")
 
 
-def demo():
+def stand(symbol):
+    return f"{symbol >> 32:5} {symbol % 2**32:6}"
+
+
+def tell_column(shape, data, number):
+    """The first rows of a column; the parity columns are worked out from the data columns."""
+    column = (data + parities(shape, data))[number - 1]
+    print(f"column {number:2}:" + "".join("  " + stand(symbol) for symbol in column[:4]))
+
+
+def founded_route():
+    """The route of both demos, as it is founded: its shape and its data columns."""
     shape = Shape(4, 2, 5)
     print(f"A route of {shape.n} boards: {shape.k} carry data, {shape.r} carry parity.")
     print(
@@ -289,12 +300,13 @@ def demo():
     ]
     print(f"Founded with {shape.k * shape.rows} reads; the meter stands at {shape.k * shape.rows}.")
     print("Stock and cash of rows 0 to 3:")
-    columns = data + parities(shape, data)
-    tell = lambda number: print(
-        f"column {number:2}:" + "".join(f"  {s >> 32:5} {s % 2**32:6}" for s in columns[number - 1][:4])
-    )
     for number in range(1, shape.n + 1):
-        tell(number)
+        tell_column(shape, data, number)
+    return shape, data
+
+
+def demo():
+    shape, data = founded_route()
     for lost in (2, 7):
         count = len(reading_list(shape, lost))
         print(
@@ -302,30 +314,12 @@ def demo():
             f"whole columns would take {shape.k * shape.rows}."
         )
         print(f"Rebuilt; the meter moved by {count}.")
-        tell(lost)
+        tell_column(shape, data, lost)
 
 
 def sales():
-    """A day on the route: told from the data columns alone, whose parity columns are worked out whenever one is shown."""
-    shape = Shape(4, 2, 5)
-    print(f"A route of {shape.n} boards: {shape.k} carry data, {shape.r} carry parity.")
-    print(
-        f"Shape k {shape.k}, q {shape.q}, p {shape.p}: {shape.rows} rows in {shape.t} classes, "
-        f"a ring of {shape.ring} positions."
-    )
-    print(f"A lost data column has {shape.d} helpers.")
-    seed = lambda column, row: column * 37 + row * 11
-    data = [
-        [(seed(c, r) % 60) << 32 | seed(c, r) * 25 for r in range(shape.rows)] for c in range(1, shape.k + 1)
-    ]
-    print(f"Founded with {shape.k * shape.rows} reads; the meter stands at {shape.k * shape.rows}.")
-    print("Stock and cash of rows 0 to 3:")
-    stand = lambda s: f"{s >> 32:5} {s % 2**32:6}"
-    tell = lambda number: print(
-        f"column {number:2}:" + "".join("  " + stand(s) for s in (data + parities(shape, data))[number - 1][:4])
-    )
-    for number in range(1, shape.n + 1):
-        tell(number)
+    """A day on the route, told from the data columns alone."""
+    shape, data = founded_route()
     sold, lost = 3 << 32 | 4400, set()
 
     def sell(c, row):
@@ -363,7 +357,7 @@ def sales():
         print(f"Column {c} is quoted at {count} reads; whole columns would take {shape.k * shape.rows}.")
         print(f"Rebuilt; the meter moved by {count}.")
         lost.remove(c)
-        tell(c)
+        tell_column(shape, data, c)
 
     sell(3, 5)
     sell(3, 13)

@@ -3,7 +3,7 @@ use std::alloc::{AllocError, Global};
 use symbol::{Stand, Symbol};
 
 #[derive(Drop)]
-pub struct Book {
+pub(crate) struct Book {
     rows: usize,
     lost: Vec<bool>,
     readings: Vec<Stand>,
@@ -11,7 +11,12 @@ pub struct Book {
 
 impl Book {
     // All boards present, and no readings yet.
-    pub fn new(heap: Global, columns: usize, data: usize, rows: usize) -> Result<Book, AllocError> {
+    pub(crate) fn new(
+        heap: Global,
+        columns: usize,
+        data: usize,
+        rows: usize,
+    ) -> Result<Book, AllocError> {
         Ok(Book {
             rows,
             lost: vec![in heap; false; columns]?,
@@ -26,27 +31,27 @@ impl Book {
             .saturating_add(row)
     }
 
-    pub fn put(&mut self, column: usize, row: usize, reading: Stand) {
+    pub(crate) fn put(&mut self, column: usize, row: usize, reading: Stand) {
         let place = self.place(column, row);
         if let Some(cell) = self.readings.get_mut(place) {
             *cell = reading;
         }
     }
 
-    pub fn reading(&self, column: usize, row: usize) -> Stand {
+    pub(crate) fn reading(&self, column: usize, row: usize) -> Stand {
         match self.readings.get(self.place(column, row)) {
             Some(reading) => *reading,
             None => Stand::zero(),
         }
     }
 
-    pub fn mark(&mut self, column: usize, lost: bool) {
+    pub(crate) fn mark(&mut self, column: usize, lost: bool) {
         if let Some(mark) = self.lost.get_mut(column.saturating_sub(1)) {
             *mark = lost;
         }
     }
 
-    pub fn is_lost(&self, column: usize) -> bool {
+    pub(crate) fn is_lost(&self, column: usize) -> bool {
         match self.lost.get(column.saturating_sub(1)) {
             Some(lost) => *lost,
             None => true,

@@ -2,5 +2,4 @@ pub mod Hex
 pub mod Kinds
 pub mod Bytes
 pub mod Stands
-pub mod Short
-pub mod StandSymbolLemmas
+pub mod Laws

@@ -1,10 +1,10 @@
 // The byte, summed by exclusive or.
 ghost use Rattle.std.specs.Prelude.{[], ◌∷◌};
-ghost use Rattle.symbol.specs.Bytes.{byte as of_value, byte_plus, byte_bytes, byte_of, byte};
+ghost use Rattle.symbol.specs.Bytes.{byte, byte_plus, byte_bytes, byte_of};
 ghost use Rattle.std.proofs.Common.{ap, sym, rules};
 ghost use Rattle.std.specs.Int.Bits.{xor_assoc, xor_zero_r, xor_self};
 ghost use Rattle.std.proofs.lemmas.Nat.{xor_comm};
-ghost use Rattle.symbol.specs.Short.{elements};
+ghost use Rattle.symbol.specs.Laws.{elements};
 
 use crate::kind::Symbol;
 
@@ -14,7 +14,7 @@ pub struct Byte {
 }
 
 impl Symbol for Byte {
-    ghost zero = { of_value 0 };
+    ghost zero = { byte 0 };
 
     ghost plus = { byte_plus };
 

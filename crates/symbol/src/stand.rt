@@ -2,10 +2,9 @@
 ghost use Rattle.symbol.specs.Stands.{stand as made_of, stand_plus, stand_bytes, stand_of};
 ghost use Rattle.std.specs.Int.Bits.{xor_assoc, xor_zero_r, xor_self};
 ghost use Rattle.std.proofs.lemmas.Nat.{xor_comm};
-ghost use Rattle.symbol.specs.StandSymbolLemmas.{both};
 ghost use Rattle.std.specs.Prelude.{◌≡◌, ◌/◌, ◌%◌, slice_index_or};
 ghost use Rattle.std.proofs.Common.{arith, rules};
-ghost use Rattle.symbol.specs.Short.{elements};
+ghost use Rattle.symbol.specs.Laws.{elements, both};
 
 use crate::kind::Symbol;
 

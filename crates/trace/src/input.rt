@@ -10,7 +10,7 @@ use symbol::{Byte, Symbol};
 
 // A linear congruential generator: the high byte of each state is taken.
 #[derive(Drop)]
-pub struct Random(pub u32);
+pub(crate) struct Random(pub(crate) u32);
 
 impl Random {
     fn byte(&mut self) -> u8 {
@@ -31,7 +31,7 @@ impl Random {
 }
 
 // The symbols of an array that is not founded yet: the data columns are drawn.
-pub fn drawn<X: Symbol + Clone>(
+pub(crate) fn drawn<X: Symbol + Clone>(
     heap: Global,
     shape: Shape,
     random: &mut Random,
@@ -53,7 +53,7 @@ fn push_byte(text: &mut Vec<u8>, value: u8) -> anyhow::Result<()> {
 }
 
 // The text of an array whose columns are present.
-pub fn text_of<X: Symbol>(
+pub(crate) fn text_of<X: Symbol>(
     heap: Global,
     cells: &[X],
     rows: usize,
@@ -130,7 +130,7 @@ fn call<X: Symbol>(letter: &str, text: &str) -> anyhow::Result<Call<X>> {
 }
 
 // The calls of a line. Quotes of other arrays go into the hand.
-pub fn parsed<X: Symbol>(
+pub(crate) fn parsed<X: Symbol>(
     heap: Global,
     text: &str,
     hand: &mut [Option<Quote>],

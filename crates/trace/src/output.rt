@@ -15,7 +15,7 @@ fn digits<X: Symbol>(heap: Global, symbol: X, text: &mut [u8]) -> anyhow::Result
 }
 
 // One line for an answer.
-pub fn tell<X: Symbol>(rt: &HostRuntime, answer: Answer<X>) -> anyhow::Result<()> {
+pub(crate) fn tell<X: Symbol>(rt: &HostRuntime, answer: Answer<X>) -> anyhow::Result<()> {
     match answer {
         Answer::Reads(count) => println!(rt; " reads {count}")?,
         Answer::Symbol(symbol) => {
@@ -63,7 +63,7 @@ fn checksum<X: Symbol, S: ColumnStore<X>>(
 }
 
 // The meter, and each column: its checksum, or that it is lost.
-pub fn tell_store<X: Symbol, S: ColumnStore<X>>(
+pub(crate) fn tell_store<X: Symbol, S: ColumnStore<X>>(
     rt: &HostRuntime,
     store: &mut S,
 ) -> anyhow::Result<()> {

@@ -1,5 +1,5 @@
 use Rattle.std.proofs.Common.{rules}
-use Rattle.symbol.specs.Short.{elements}
+use Rattle.symbol.specs.Laws.{elements}
 use Rattle.symbol.proofs.stand.StandSymbol.write_bytes.Goals as goal
 
 pub returns : goal.returns
