@@ -1,7 +1,7 @@
 #!/usr/bin/env python3
 """Runs the program rebuild beside tools/reference.py on drawn inputs, and compares what they write, byte by byte.
 
-    tools/compare.py [COUNT [SEED]]      after `rt run` in crates/rebuild; 5000 inputs of seed 1 if nothing is said
+    tools/compare.py [COUNT [SEED]]      after `rt run < stdin` in crates/rebuild; 5000 inputs of seed 1 if nothing is said
 
 It prints how many inputs there were of each kind, how many answers of each kind, and the number of differences; the
 first inputs that differ are left in files. The status is 0 if there is none.

@@ -4,7 +4,7 @@
     tools/trace.py < crates/trace/stdin            prints what crates/trace must print
     tools/trace.py draw COUNT CALLS SEED           draws COUNT runs of CALLS calls each, for crates/trace/stdin
     tools/trace.py compare COUNT CALLS SEED        draws such runs, plays them by crates/trace/out/trace and here, and
-                                                   compares the answers call by call; after `rt run` in crates/trace
+                                                   compares the answers call by call; after `rt run < stdin` in crates/trace
 
 The rules are those of docs/CODE.md and docs/REFUSALS.md; the lines are told in crates/trace/src/main.rt.
 """
