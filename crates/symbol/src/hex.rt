@@ -1,4 +1,4 @@
-// Uppercase hexadecimal digits, two to a byte.
+// Uppercase hexadecimal digits, two to a byte. `char::to_digit` and the crate hex take lowercase too, and hex writes it.
 ghost use Rattle.std.specs.Prelude.{◌≡◌, ℕ, ◌+◌, ◌*◌, ◌<◌, true, false, length, if◌then◌else◌, Some, None};
 ghost use Rattle.symbol.specs.Hex.{digit_of, is_digit, worth, is_hex, hex, unhex};
 ghost use Rattle.symbol.specs.Kinds.{Unhexed, Wrote};

@@ -47,6 +47,7 @@ pub trait Symbol: Copy + PartialEq {
         ensures { result ≡ from_digits width symbol part.now }
     {
         let width = Self::width();
+        // No heap here: a symbol has at most 16 bytes.
         let mut bytes = [0; 16];
         read_hex(part, &mut bytes[..width])?;
         Self::read_bytes(&bytes[..width])
@@ -62,6 +63,7 @@ pub trait Symbol: Copy + PartialEq {
         write_hex(&bytes[..width], part)
     }
 
+    // `==` answers true exactly for the same symbol.
     ghost exact: { (x y : Self) → Tells x y (Self.eq x y) };
 
     ghost group: { BooleanGroup zero plus };
