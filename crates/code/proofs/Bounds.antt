@@ -1,13 +1,10 @@
 -- How large a shape's numbers are.
-use Rattle.std.proofs.Common.{◌≡◌, ℕ, suc, ◌+◌, ◌-◌, ◌*◌, ◌^◌, ◌≤◌, true, sym, ap, ◌∙◌, mul-le-mul_right, mul-le-mul, pow-suc, add-one, arith}
+use Rattle.std.proofs.Common.{◌≡◌, ℕ, suc, ◌+◌, ◌-◌, ◌*◌, ◌^◌, ◌≤◌, true, sym, ap, ◌∙◌, mul-le-mul_right, mul-le-mul, arith}
 use native.Mathlib.Nat.{one-le-pow, pow-le-pow_left, pow-le-pow_right}
 use Rattle.std.proofs.lemmas.Bool.Decides.{nat_tests}
 use Rattle.code.specs.declared.shape.Shape.{Shape}
 use Rattle.code.specs.Rules.{listed, one_of}
 use Rattle.code.specs.Shapes.{parities_of, classes_of, rows_of, positions_of, shift_of}
-
-pub power_more : (q i x : ℕ) → x ≡ q ^ i → x * q ≡ q ^ (i + 1)
-power_more q i x e = ap (λ y. y * q) e ∙ sym (pow-suc q i) ∙ ap (λ n. q ^ n) (sym (add-one i))
 
 pub power_low : (q e : ℕ) → q ≤ 4 → e ≤ 10 → q ^ e ≤ 1048576
 power_low q e h k = omega (arith, pow-le-pow_left h e, pow-le-pow_right {n = 4} (omega arith) k)
@@ -15,22 +12,19 @@ power_low q e h k = omega (arith, pow-le-pow_left h e, pow-le-pow_right {n = 4} 
 pub prime_range : (p : ℕ) → one_of listed p ≡ true → (3 ≤ p) × (p ≤ 101)
 prime_range p h = (grind (arith, nat_tests), grind (arith, nat_tests))
 
-pub rows_low : (q e p : ℕ) → q ≤ 4 → e ≤ 10 → p ≤ 101 → (p - 1) * q ^ e ≤ 104857600
-rows_low q e p h k l = mul-le-mul {n₁ = p - 1} {m₁ = q ^ e} {n₂ = 100} {m₂ = 1048576} (omega arith) (power_low q e h k)
-
 module _ (s : Shape) where
   pub prime_low : 3 ≤ s.p
   prime_low = (prime_range s.p s.prime).0
 
-  pub prime_high : s.p ≤ 101
-  prime_high = (prime_range s.p s.prime).1
+  -- the stored blocks and one more
+  pub blocks : suc (s.p - 1) ≡ s.p
+  blocks = omega (arith, prime_low)
 
   pub classes_pos : 1 ≤ classes_of s
   classes_pos = one-le-pow (s.k - 2) s.q (omega arith)
 
-  -- p blocks are p - 1 and one more
   pub positions_are : positions_of s ≡ rows_of s + classes_of s
-  positions_are = let e : s.p ≡ suc (s.p - 1) = omega (arith, prime_low) in ap (λ p. p * classes_of s) e ∙ omega arith
+  positions_are = ap (λ p. p * classes_of s) (sym blocks) ∙ omega arith
 
   pub classes_low : 2 * classes_of s ≤ rows_of s
   classes_low = mul-le-mul_right (classes_of s) (omega (arith, prime_low))

@@ -7,14 +7,11 @@ use Rattle.ring.proofs.Changes.{shift_meets, sum_changed, at_changed}
 use Rattle.code.specs.declared.shape.Shape.{Shape}
 use Rattle.code.specs.Shapes.{parities_of, classes_of, rows_of, positions_of, shift_of}
 use Rattle.code.specs.Parities.{symbol_of, term_of, parity_of, takes_in}
-use Rattle.code.proofs.Bounds.{prime_low, classes_pos, positions_are, shift_low}
+use Rattle.code.proofs.Bounds.{blocks, classes_pos, positions_are, shift_low}
 
 module _ (s : Shape) where
-  blocks : suc (s.p - 1) ≡ s.p
-  blocks = omega (arith, prime_low s)
-
   in_ring : (x : ℕ) → x % positions_of s < suc (s.p - 1) * classes_of s
-  in_ring x = rw blocks (mod-lt x (omega (arith, positions_are s, classes_pos s)))
+  in_ring x = rw (blocks s) (mod-lt x (omega (arith, positions_are s, classes_pos s)))
 
   class_low : (row : ℕ) → row % classes_of s < classes_of s
   class_low row = mod-lt row (omega (arith, classes_pos s))

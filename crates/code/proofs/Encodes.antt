@@ -6,10 +6,7 @@ use Rattle.ring.proofs.Classes.{at_same, parity_extends}
 use Rattle.code.specs.declared.shape.Shape.{Shape}
 use Rattle.code.specs.Shapes.{parities_of, classes_of, rows_of, positions_of, shift_of}
 use Rattle.code.specs.Parities.{symbol_of, term_of, parity_of, Encoded}
-use Rattle.code.proofs.Bounds.{prime_low, classes_pos, positions_are}
-
-blocks : (s : Shape) → suc (s.p - 1) ≡ s.p
-blocks s = omega (arith, prime_low s)
+use Rattle.code.proofs.Bounds.{blocks, classes_pos, positions_are}
 
 -- a parity depends on the data columns' rows alone
 pub parity_same :

@@ -4,7 +4,6 @@
 mod numbers;
 mod refusal;
 mod shape;
-mod told;
 
 pub use refusal::Refusal;
 pub use shape::Shape;

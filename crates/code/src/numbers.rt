@@ -6,17 +6,14 @@ ghost use Rattle.code.specs.Shapes.{Made, parities_of, columns_of, helpers_of, c
 use crate::refusal::Refusal;
 use crate::shape::Shape;
 
+#[tactic(auto, using(crate::proofs::Bounds::power_low))]
 fn power(base: usize, exponent: usize) -> usize
-    requires base { (2 ≤ base) × (base ≤ 4) }
+    requires base { base ≤ 4 }
     requires exponent { exponent ≤ 10 }
     ensures is { result ≡ base ^ exponent }
     ensures low { result ≤ 1048576 }
 {
-    let mut product = 1;
-    for i in 0..exponent {
-        product *= base;
-    }
-    product
+    base.pow(exponent as u32)
 }
 
 fn is_listed(p: usize) -> bool
@@ -42,10 +39,10 @@ impl Shape {
     pub fn new(k: usize, q: usize, p: usize) -> Result<Shape, Refusal>
         ensures { Made k q p result }
     {
-        if k < 4 || k > 12 {
+        if !(4..=12).contains(&k) {
             return Err(Refusal::DataColumns { k });
         }
-        if q < 2 || q > 4 {
+        if !(2..=4).contains(&q) {
             return Err(Refusal::HelpingParities { q });
         }
         if !is_listed(p) {
@@ -107,7 +104,7 @@ impl Shape {
     pub fn shift(self, parity: usize, column: usize) -> Option<usize>
         ensures { result ≡ (if is_shifted self parity column then Some (shift_of self parity column) else None) }
     {
-        if parity < 1 || parity > self.parities() || column < 1 || column > self.k {
+        if !(1..=self.parities()).contains(&parity) || !(1..=self.k).contains(&column) {
             return None;
         }
         if parity <= self.q {

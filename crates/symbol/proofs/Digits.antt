@@ -98,15 +98,6 @@ pub unhex_more : (s bs : List ℕ) (i v : ℕ) → 2 * i + 1 < length s → i < 
     take i bs ++ unhex (drop (2 * i) s) ≡ take (i + 1) (set bs i v) ++ unhex (drop (2 * (i + 1)) s)
 unhex_more s bs i v h l e = rw (drop_pair s i h, take_more_set, append_assoc, e)
 
--- pair i is written
-pub hex_more : (bs s : List ℕ) (i a b : ℕ) → i < length bs → 2 * i + 1 < length s → a ≡ digit_of (get_or bs i 0 / 16) → b ≡ digit_of (get_or bs i 0 % 16) →
-    take (2 * i) s ++ hex (drop i bs) ≡ take (2 * (i + 1)) (set (set s (2 * i) a) (2 * i + 1) b) ++ hex (drop (i + 1) bs)
-hex_more bs s i a b l h p q =
-    let e : 2 * (i + 1) ≡ 2 * i + 1 + 1 = omega arith in
-    let before : 2 * i < length s = omega arith in
-    let after : 2 * i + 1 < length (set s (2 * i) a) = simp length-set h in
-    rw (e, drop_more bs i 0 l, take_more_set, take_more_set, p, q) (simp append_assoc)
-
 -- nothing is left
 pub front_all : (F : List ℕ → List ℕ) (s t : List ℕ) (m n : ℕ) → F [] ≡ [] → length s ≤ m → length t ≤ n → take m s ++ F (drop n t) ≡ s
 front_all F s t m n e h l = rw (take_all m s h, drop_all n t l, e) (append-nil s)
