@@ -1,6 +1,6 @@
 // How a plan is made, and the count of what it reads.
 ghost use Rattle.std.specs.Prelude.{◌≡◌, ℕ, ◌+◌, ◌<◌, ◌≤◌, cond, length, slice_index};
-ghost use Rattle.code.specs.Shapes.{parities_of};
+ghost use Rattle.code.specs.Shapes.{parities_of, rows_of};
 ghost use Rattle.repair.specs.Halves.{first_half as is_first_half, depth as depth_of};
 ghost use Rattle.repair.specs.Steps.{step as step_of};
 ghost use Rattle.repair.specs.Lists.{formula};
@@ -62,6 +62,26 @@ impl Plan {
             positions: shape.positions(),
             steps,
         })
+    }
+
+    pub fn shape(&self) -> Shape
+        ensures { result ≡ self.now.shape }
+    {
+        self.shape
+    }
+
+    // The column that is rebuilt.
+    pub fn lost(&self) -> usize
+        ensures { result ≡ self.now.lost }
+    {
+        self.lost
+    }
+
+    // The rows of a column.
+    pub fn rows(&self) -> usize
+        ensures { result ≡ rows_of self.now.shape }
+    {
+        self.rows
     }
 
     // How many symbols are read. One row in q is a home row of each helper; the added rows of all columns are as many as

@@ -65,6 +65,20 @@ impl ParityRule {
         })
     }
 
+    // The column that holds the parity.
+    pub fn column(&self) -> usize
+        ensures { result ≡ self.now.shape.k + self.now.parity }
+    {
+        self.shape.k + self.parity
+    }
+
+    // The rows that are stored of it.
+    pub fn rows(&self) -> usize
+        ensures { result ≡ rows_of self.now.shape }
+    {
+        self.rows
+    }
+
     // The shift of data column i + 1 at each i.
     pub fn shifts(&self) -> [usize; 12]
         ensures twelve { length result ≡ 12 }
