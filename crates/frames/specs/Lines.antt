@@ -20,14 +20,10 @@ mark_at w text i = slice_index text (i * stride w)
 abbrev pub digits_at : ℕ → List ℕ → ℕ → List ℕ
 digits_at w text i = part text (i * stride w + 10) (2 * w)
 
--- whether a text of that size is so many columns and rows of lines of s bytes
-abbrev pub is_whole : ℕ → ℕ → ℕ → ℕ → Bool
-is_whole s columns rows size = cond (nat_lt 0 rows) (size == columns * rows * s) false
-
--- where the line of a place begins; none outside, or if the text's size is another
+-- where the line of a place begins; none outside
 abbrev pub Placed : ℕ → ℕ → ℕ → ℕ → ℕ → ℕ → Option ℕ → Type 0
-Placed s columns rows size c r (Some a) = (is_whole s columns rows size ≡ true) × (1 ≤ c) × (c ≤ columns) × (r < rows) × (a ≡ place_of rows c r * s) × (a + s ≤ size)
-Placed s columns rows size c r None = is_whole s columns rows size ≡ true → 1 ≤ c → c ≤ columns → r < rows → ⊥
+Placed s columns rows size c r (Some a) = (1 ≤ c) × (c ≤ columns) × (r < rows) × (a ≡ place_of rows c r * s) × (a + s ≤ size)
+Placed s columns rows size c r None = 1 ≤ c → c ≤ columns → r < rows → ⊥
 
 -- the text with other bytes from a on
 abbrev pub over : List ℕ → ℕ → List ℕ → List ℕ
