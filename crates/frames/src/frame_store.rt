@@ -39,13 +39,13 @@ impl<'a, X: Symbol> Frames<'a, X> {
     }
 
     // Where the line of a place begins.
-    fn line(&self, column: usize, row: usize) -> Option<usize>
+    fn line(&self, column: usize, row: usize) -> Result<usize, Refusal>
         ensures { Placed (stride_of X.Symbol.width) self.now.columns self.now.rows (length self.now.text.now) column row result }
     {
-        if column < 1 || column > self.columns || row >= self.rows {
-            return None;
+        if !(1..=self.columns).contains(&column) || row >= self.rows {
+            return Err(Refusal::NoSuchPlace { column, row });
         }
-        Some(((column - 1) * self.rows + row) * stride::<X>())
+        Ok(((column - 1) * self.rows + row) * stride::<X>())
     }
 
     // The symbol of the line that begins there.
@@ -63,9 +63,7 @@ impl<'a, X: Symbol> Frames<'a, X> {
         ensures bytes { Marks X.Symbol.width self.old column mark result self.new }
         ensures stays { is_mark mark ≡ true → Stays X.Symbol.width self.old self.new }
     {
-        let Some(_) = self.line(column, 0) else {
-            return Err(Refusal::NoSuchPlace { column, row: 0 });
-        };
+        self.line(column, 0)?;
         let rows = self.rows;
         mark_lines::<X>(self.text, (column - 1) * rows, rows, mark);
         Ok(())
@@ -90,10 +88,7 @@ impl<'a, X: Symbol> ColumnStore<X> for Frames<'a, X> {
     }
 
     fn is_lost(&self, column: usize) -> bool {
-        match self.line(column, 0) {
-            Some(at) => self.text[at] != b'P',
-            None => true,
-        }
+        !self.line(column, 0).is_ok_and(|at| self.text[at] == b'P')
     }
 
     fn read(&mut self, column: usize, row: usize) -> Result<X, Refusal>
@@ -101,9 +96,7 @@ impl<'a, X: Symbol> ColumnStore<X> for Frames<'a, X> {
         ensures bytes { self.new.text.now ≡ self.old.text.now }
         ensures stays { Stays X.Symbol.width self.old self.new }
     {
-        let Some(at) = self.line(column, row) else {
-            return Err(Refusal::NoSuchPlace { column, row });
-        };
+        let at = self.line(column, row)?;
         if self.is_lost(column) {
             return Err(Refusal::ColumnLost { column });
         }
@@ -117,9 +110,7 @@ impl<'a, X: Symbol> ColumnStore<X> for Frames<'a, X> {
         ensures bytes { Puts X.Symbol.width self.old column row (hex (X.Symbol.bytes symbol)) result self.new }
         ensures stays { Stays X.Symbol.width self.old self.new }
     {
-        let Some(at) = self.line(column, row) else {
-            return Err(Refusal::NoSuchPlace { column, row });
-        };
+        let at = self.line(column, row)?;
         put_digits(self.text, at + 10, symbol);
         Ok(())
     }
