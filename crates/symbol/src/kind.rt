@@ -1,5 +1,5 @@
 // A kind of symbol. The code above the kinds is written once, for every one of them.
-ghost use Rattle.std.specs.Prelude.{◌≡◌, ℕ, ◌*◌, ◌≤◌, List, length};
+ghost use Rattle.std.specs.Prelude.{IfOk, ◌≡◌, ℕ, ◌*◌, ◌≤◌, List, length};
 ghost use Rattle.ring.specs.Sums.{BooleanGroup};
 ghost use Rattle.symbol.specs.Hex.{hex, Octets};
 ghost use Rattle.symbol.specs.Kinds.{Tells, from_bytes, from_digits, Wrote};
@@ -55,7 +55,8 @@ pub trait Symbol: Copy + PartialEq {
 
     // An error, and nothing is changed, exactly if the part is not 2 * `width` bytes long.
     fn write_digits(self, part: &mut [u8]) -> Result<(), WrongLength>
-        ensures { Wrote (hex (bytes self)) part.old part.new result }
+        ensures wrote { Wrote (hex (bytes self)) part.old part.new result }
+        ensures real { IfOk result (λ _. Octets (bytes self)) }
     {
         let width = Self::width();
         let mut bytes = [0; 16];
