@@ -3,3 +3,4 @@ pub mod Recovered
 pub mod Accepted
 pub mod Apart
 pub mod Books
+pub mod Spent

@@ -100,18 +100,6 @@ module _ {X : Type 0} (none : X) (plus : X → X → X) (s : Shape) where
       value : (row : ℕ) → value_of none plus s f g.at row ≡ parity_of none plus s g.at (f - s.k) row
       value row = rw (data_no f past)
 
-  -- the plan's shape and column, and the shape's numbers, are told by equations
-  pub rebuilt_planned :
-      (s' : Shape) (f f' columns rows : ℕ) (g h₁ h₂ h₃ : View X) (n : ℕ) (work after : List X) → s' ≡ s → f' ≡ f → columns ≡ columns_of s → rows ≡ rows_of s →
-      1 ≤ f → f ≤ s.k → fits s g ≡ true →
-      Collected none s' f' g columns n h₁ work → Refilled h₁ f rows (rebuilt none plus s' f' (area none s' f' work)) h₂ → Admitted h₂ f h₃ → Cleared none after →
-      Rebuilt none plus s f g n h₃ after
-  rebuilt_planned s' f f' columns rows g h₁ h₂ h₃ n work after es ef ec er one last fit C R A clean =
-      rebuilt_data f one last g h₁ h₂ h₃ n work after fit
-      (subst (λ c. Collected none s f g c n h₁ work) ec (subst (λ x. Collected none s x g columns n h₁ work) ef (subst (λ x. Collected none x f' g columns n h₁ work) es C)))
-      (subst (λ r. Refilled h₁ f r (rebuilt none plus s f (area none s f work)) h₂) er (subst (λ x. Refilled h₁ f rows (rebuilt none plus s x (area none s x work)) h₂) ef (subst (λ x. Refilled h₁ f rows (rebuilt none plus x f' (area none x f' work)) h₂) es R)))
-      A clean
-
   -- what it is for
   pub restores : BooleanGroup none plus → (f : ℕ) → 1 ≤ f → f ≤ columns_of s → (g h : View X) (n : ℕ) (work : List X) → Rebuilt none plus s f g n h work → Restores none plus s f g h
   restores L f one last g h n work R = elim (cases_lt s.k f) [ inl k ↦ parity k | inr k ↦ of_data k ]

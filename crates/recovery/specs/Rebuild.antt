@@ -62,6 +62,11 @@ rebuild_refusal s g f count room =
     (refuse (not (count == count_of s f)) (CountDiffers (count_of s f))
     (room_refusal s room))
 
+-- what the checks of a loss answer
+abbrev pub Losable : {X U : Type 0} → Shape → View X → ℕ → Result U Refusal → Type 0
+Losable s g f (Ok _) = lose_refusal s g f ≡ None
+Losable s g f (Err e) = lose_refusal s g f ≡ Some e
+
 -- what the checks of a quote answer: the count, or the refusal
 abbrev pub Priced : {X : Type 0} → Shape → View X → ℕ → Result ℕ Refusal → Type 0
 Priced s g f (Ok n) = (quote_refusal s g f ≡ None) × (n ≡ count_of s f)

@@ -3,12 +3,27 @@ ghost use Rattle.std.specs.Prelude.{◌≡◌, is_ok};
 ghost use Rattle.store.specs.View.{counts_as_lost};
 ghost use Rattle.array.specs.Book.{loses, Keeps};
 ghost use Rattle.array.specs.Lost.{lowest_lost as lowest_of};
-ghost use Rattle.recovery.specs.Rebuild.{Loses, TellsLost};
+ghost use Rattle.recovery.specs.Rebuild.{Losable, Loses, TellsLost};
 
 use array::{Array, check_fit, drop_column, lowest_lost};
-use code::Refusal;
+use code::{Refusal, Shape};
 use store::ColumnStore;
 use symbol::Symbol;
+
+// Whether the store fits, and the shape has such a column.
+pub(crate) fn check_column<X: Symbol, S: ColumnStore<X>>(
+    store: &S,
+    shape: Shape,
+    column: usize,
+) -> Result<(), Refusal>
+    ensures { Losable shape (S.ColumnStore.view store.now) column result }
+{
+    check_fit(store, shape)?;
+    if !(1..=shape.columns()).contains(&column) {
+        return Err(Refusal::NoSuchPlace { column, row: 0 });
+    }
+    Ok(())
+}
 
 // The column is lost; a lost one may be lost again.
 pub fn lose<X: Symbol, S: ColumnStore<X>>(
@@ -19,10 +34,7 @@ pub fn lose<X: Symbol, S: ColumnStore<X>>(
     ensures answer { Loses S.ColumnStore.view array.now.shape store.old column result store.new }
     ensures book { Keeps X.Symbol.zero X.Symbol.plus array.now.shape (loses column) (is_ok result) (S.ColumnStore.view store.old) (S.ColumnStore.view store.new) }
 {
-    check_fit(store, array.shape)?;
-    if column < 1 || column > array.shape.columns() {
-        return Err(Refusal::NoSuchPlace { column, row: 0 });
-    }
+    check_column(store, array.shape, column)?;
     drop_column(store, column)
 }
 

@@ -7,43 +7,19 @@ ghost use Rattle.array.specs.Lost.{lowest_lost as lowest_of};
 ghost use Rattle.code.specs.Shapes.{columns_of};
 ghost use Rattle.recovery.specs.Rebuild.{lost_helper, count_of, Priced, Quotes, Allowed};
 
+use crate::losing::check_column;
 use crate::quotes::Quote;
-use array::{Array, check_fit, check_room, lowest_lost};
+use array::{Array, check_room, lowest_lost};
 use code::{Refusal, Shape};
 use repair::Plan;
 use store::ColumnStore;
 use symbol::Symbol;
 
-// Whether a column is a lost helper.
-fn is_lost_helper<X: Symbol, S: ColumnStore<X>>(
-    store: &S,
-    shape: Shape,
-    lost: usize,
-    plan: &Plan,
-    column: usize,
-) -> bool
-    requires { (plan.now.shape ≡ shape) × (plan.now.lost ≡ lost) }
-    ensures { result ≡ (helper_of shape lost column && counts_as_lost (S.ColumnStore.view store.now) column) }
-{
-    plan.helper(column) && store.is_lost(column)
-}
-
 // The lowest lost one of a plan's helpers, if one is lost.
-fn lowest_helper<X: Symbol, S: ColumnStore<X>>(
-    store: &S,
-    shape: Shape,
-    lost: usize,
-    plan: &Plan,
-) -> Option<usize>
-    requires { (plan.now.shape ≡ shape) × (plan.now.lost ≡ lost) }
-    ensures { result ≡ lowest_of (λ c. helper_of shape lost c && counts_as_lost (S.ColumnStore.view store.now) c) (columns_of shape) }
+fn lowest_helper<X: Symbol, S: ColumnStore<X>>(store: &S, plan: &Plan) -> Option<usize>
+    ensures { result ≡ lowest_of (λ c. helper_of plan.now.shape plan.now.lost c && counts_as_lost (S.ColumnStore.view store.now) c) (columns_of plan.now.shape) }
 {
-    for c in 0..shape.columns() {
-        if is_lost_helper(store, shape, lost, plan, c + 1) {
-            return Some(c + 1);
-        }
-    }
-    None
+    (1..plan.shape().columns() + 1).find(|c| plan.helper(*c) && store.is_lost(*c))
 }
 
 // The lowest lost helper of a column, if one is lost.
@@ -56,7 +32,7 @@ fn lowest_lost_helper<X: Symbol, S: ColumnStore<X>>(
     ensures { result ≡ lost_helper shape lost (S.ColumnStore.view store.now) }
 {
     match Plan::of(shape, lost) {
-        Some(plan) => lowest_helper(store, shape, lost, &plan),
+        Some(plan) => lowest_helper(store, &plan),
         None => lowest_lost(store, shape.k),
     }
 }
@@ -66,24 +42,18 @@ fn count(shape: Shape, lost: usize) -> usize
     requires { 1 ≤ lost }
     ensures { result ≡ count_of shape lost }
 {
-    match Plan::of(shape, lost) {
-        Some(plan) => plan.count(),
-        None => shape.k * shape.rows(),
-    }
+    Plan::of(shape, lost).map_or(shape.k * shape.rows(), |plan| plan.count())
 }
 
 // The count of a lost column whose helpers are present.
-pub(crate) fn price<X: Symbol, S: ColumnStore<X>>(
+fn price<X: Symbol, S: ColumnStore<X>>(
     store: &S,
     shape: Shape,
     column: usize,
 ) -> Result<usize, Refusal>
     ensures { Priced shape (S.ColumnStore.view store.now) column result }
 {
-    check_fit(store, shape)?;
-    if column < 1 || column > shape.columns() {
-        return Err(Refusal::NoSuchPlace { column, row: 0 });
-    }
+    check_column(store, shape, column)?;
     if !store.is_lost(column) {
         return Err(Refusal::ColumnPresent { column });
     }
@@ -106,18 +76,17 @@ pub fn quote<X: Symbol, S: ColumnStore<X>>(
     Ok(Quote { column, count })
 }
 
-// Whether a quote of that column and count allows a rebuild.
+// Whether a quote allows a rebuild.
 pub(crate) fn check_rebuild<X: Symbol, S: ColumnStore<X>>(
     store: &S,
     shape: Shape,
-    column: usize,
-    quoted: usize,
+    quote: &Quote,
     room: usize,
 ) -> Result<(), Refusal>
-    ensures { Allowed shape (S.ColumnStore.view store.now) column quoted room result }
+    ensures { Allowed shape (S.ColumnStore.view store.now) quote.now.column quote.now.count room result }
 {
-    let count = price(store, shape, column)?;
-    if quoted != count {
+    let count = price(store, shape, quote.column)?;
+    if quote.count != count {
         return Err(Refusal::CountDiffers { count });
     }
     check_room(shape, room)

@@ -6,6 +6,7 @@ ghost use Rattle.code.specs.Shapes.{columns_of};
 ghost use Rattle.repair.specs.Lists.{helper as helper_of};
 ghost use Rattle.columns.specs.Columns.{found_refusal};
 ghost use Rattle.array.specs.Steps.{Accepts};
+ghost use Rattle.recovery.specs.Progress.{Spends};
 ghost use Rattle.recovery.specs.Rebuild.{Rebuilt, Rebuilds, rebuild_refusal};
 
 use crate::listed::{collect, restore};
@@ -21,23 +22,17 @@ use symbol::Symbol;
 // A data column, by the repair rule.
 fn rebuild_data<X: Symbol, S: ColumnStore<X>>(
     store: &mut S,
-    shape: Shape,
-    lost: usize,
+    plan: &Plan,
     work: &mut [X],
 ) -> Result<usize, Refusal>
-    requires lost { (1 ≤ lost) × (lost ≤ shape.k) }
-    requires fits { fits shape (S.ColumnStore.view store.old) ≡ true }
-    requires present { (c : ℕ) → 1 ≤ c → c ≤ columns_of shape → helper_of shape lost c ≡ true → (S.ColumnStore.view store.old).lost c ≡ false }
-    requires room { work_of shape ≤ length work.old }
-    ensures { Accepts (λ n. Rebuilt X.Symbol.zero X.Symbol.plus shape lost (S.ColumnStore.view store.old) n (S.ColumnStore.view store.new) work.new) result }
+    requires fits { fits plan.now.shape (S.ColumnStore.view store.old) ≡ true }
+    requires present { (c : ℕ) → 1 ≤ c → c ≤ columns_of plan.now.shape → helper_of plan.now.shape plan.now.lost c ≡ true → (S.ColumnStore.view store.old).lost c ≡ false }
+    requires room { work_of plan.now.shape ≤ length work.old }
+    ensures { Accepts (λ n. Rebuilt X.Symbol.zero X.Symbol.plus plan.now.shape plan.now.lost (S.ColumnStore.view store.old) n (S.ColumnStore.view store.new) work.new) result }
 {
-    let Some(plan) = Plan::of(shape, lost) else {
-        unreachable()
-    };
-    let rows = shape.rows();
-    let count = collect(store, &plan, shape.columns(), rows, work)?;
-    restore(store, &plan, lost, rows, work)?;
-    admit(store, lost)?;
+    let count = collect(store, plan, work)?;
+    restore(store, plan, work)?;
+    admit(store, plan.lost())?;
     clear(work);
     Ok(count)
 }
@@ -59,22 +54,33 @@ fn rebuild_parity<X: Symbol, S: ColumnStore<X>>(
     Ok(shape.k * shape.rows())
 }
 
-// An accepted rebuild.
+// A rebuild that the checks allow.
 pub(crate) fn rebuild_column<X: Symbol, S: ColumnStore<X>>(
     store: &mut S,
     shape: Shape,
-    lost: usize,
-    quoted: usize,
+    quote: &Quote,
     work: &mut [X],
 ) -> Result<usize, Refusal>
-    requires { rebuild_refusal shape (S.ColumnStore.view store.old) lost quoted (length work.old) ≡ None }
-    ensures { Accepts (λ n. Rebuilt X.Symbol.zero X.Symbol.plus shape lost (S.ColumnStore.view store.old) n (S.ColumnStore.view store.new) work.new) result }
+    requires { rebuild_refusal shape (S.ColumnStore.view store.old) quote.now.column quote.now.count (length work.old) ≡ None }
+    ensures { Accepts (λ n. Rebuilt X.Symbol.zero X.Symbol.plus shape quote.now.column (S.ColumnStore.view store.old) n (S.ColumnStore.view store.new) work.new) result }
 {
-    if lost <= shape.k {
-        rebuild_data(store, shape, lost, work)
-    } else {
-        rebuild_parity(store, shape, lost, work)
+    match Plan::of(shape, quote.column) {
+        Some(plan) => rebuild_data(store, &plan, work),
+        None => rebuild_parity(store, shape, quote.column, work),
     }
+}
+
+// A rebuild with the quote lent.
+fn spend<X: Symbol, S: ColumnStore<X>>(
+    store: &mut S,
+    shape: Shape,
+    quote: &Quote,
+    work: &mut [X],
+) -> Result<usize, Refusal>
+    ensures { Spends S.ColumnStore.view X.Symbol.zero X.Symbol.plus shape store.old quote.now work.old result store.new work.new }
+{
+    check_rebuild(store, shape, quote, work.len())?;
+    rebuild_column(store, shape, quote, work)
 }
 
 // Spends the quote: reads the reading list, each symbol once, writes every row, marks the column present, and answers
@@ -88,12 +94,5 @@ pub fn rebuild<X: Symbol, S: ColumnStore<X>>(
     ensures answer { Rebuilds S.ColumnStore.view X.Symbol.zero X.Symbol.plus array.now.shape store.old quote work.old result store.new work.new }
     ensures book { Keeps X.Symbol.zero X.Symbol.plus array.now.shape (rebuilds quote.column) (is_ok result) (S.ColumnStore.view store.old) (S.ColumnStore.view store.new) }
 {
-    let shape = array.shape;
-    if let Err(refusal) = check_rebuild(store, shape, quote.column, quote.count, work.len()) {
-        return Err(Rejected { refusal, quote });
-    }
-    match rebuild_column(store, shape, quote.column, quote.count, work) {
-        Ok(count) => Ok(count),
-        Err(refusal) => Err(Rejected { refusal, quote }),
-    }
+    spend(store, array.shape, &quote, work).map_err(|refusal| Rejected { refusal, quote })
 }

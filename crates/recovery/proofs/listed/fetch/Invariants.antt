@@ -6,4 +6,4 @@ use Rattle.recovery.proofs.listed.fetch.Given as goal
 abbrev pub invariant-loop-row : goal.invariant-loop-row
 invariant-loop-row g l =
     (l.count ≤ l.row) ×
-    Fetched g.X.Symbol.zero (g.S.ColumnStore.view l.initial.store) (listed l.plan.shape l.plan.lost l.column) l.column l.row l.start l.initial.work l.count (g.S.ColumnStore.view l.store) l.work
+    Fetched g.X.Symbol.zero (g.S.ColumnStore.view l.initial.store) (listed l.plan.shape l.plan.lost l.column) l.column l.row l.count (g.S.ColumnStore.view l.store) l.part
