@@ -2,7 +2,7 @@
 ghost use Rattle.runs.specs.Law.{Runs};
 ghost use Rattle.runs.specs.Steps.{state_of};
 
-use crate::calls::{Answer, Call};
+use crate::calls::{Call, Outcome};
 use crate::stepping::step;
 use array::Array;
 use recovery::Quote;
@@ -16,7 +16,7 @@ pub fn run<X: Symbol, S: ColumnStore<X>>(
     hand: &mut [Option<Quote>],
     work: &mut [X],
     calls: &[Call<X>],
-    answers: &mut [Answer<X>],
+    answers: &mut [Outcome<X>],
 ) -> usize
     ensures { Runs S.ColumnStore.view X.Symbol.zero X.Symbol.plus array.now.shape calls.now answers.old result answers.new (state_of store.old hand.old work.old) (state_of store.new hand.new work.new) }
 {

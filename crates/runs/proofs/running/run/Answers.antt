@@ -1,9 +1,8 @@
-use Rattle.std.proofs.Common.{◌≡◌, ◌<◌, length, refl, ◌∙◌, subst, arith, rules}
+use Rattle.std.proofs.Common.{◌≡◌, ◌<◌, length, None, Ok, refl, ◌∙◌, subst, arith, rules}
 use Rattle.std.proofs.lemmas.List.{get_or_default, get_or-set_other}
 use Rattle.runs.specs.Law.{Runs}
 use Rattle.runs.specs.Steps.{state_of, Stepped}
 use Rattle.runs.specs.declared.calls.Call.TheVariants.{Ask}
-use Rattle.runs.specs.declared.calls.Answer.TheVariants.{Unmade}
 use Rattle.runs.proofs.Runs.{chain_none, chain_more, ran}
 use Rattle.runs.proofs.running.run.Goals as goal
 
@@ -32,7 +31,7 @@ loop-i-preserved g c =
     let room : i < length c.loop-i.answers = omega (arith, c.min-count.ensures, c.loop-i-test.true, c.loop-i.auto.answers) in
     let call-is = c.index-calls-i.is ∙ get_or_default calls i c.index-calls-i.result Ask known in (
       chain_more v none plus s calls _ i _ a z r room c.loop-i.invariant.0 (subst (λ call. Stepped v none plus s call a r z) call-is c.step.ensures),
-      λ j h. get_or-set_other c.loop-i.answers i j r Unmade (λ e. omega arith) ∙ c.loop-i.invariant.1 j (omega arith),
+      λ j h. get_or-set_other c.loop-i.answers i j r (Ok None) (λ e. omega arith) ∙ c.loop-i.invariant.1 j (omega arith),
     )
 
 pub returns : goal.returns
