@@ -21,8 +21,9 @@ pub fn run<X: Symbol, S: ColumnStore<X>>(
     ensures { Runs S.ColumnStore.view X.Symbol.zero X.Symbol.plus array.now.shape calls.now answers.old result answers.new (state_of store.old hand.old work.old) (state_of store.new hand.new work.new) }
 {
     let count = calls.len().min(answers.len());
-    for i in 0..count {
-        answers[i] = step(array, store, hand, work, calls[i]);
+    // Nothing is known of what a `zip` of `iter_mut` wrote.
+    for (i, call) in calls[..count].iter().enumerate() {
+        answers[i] = step(array, store, hand, work, *call);
     }
     count
 }
