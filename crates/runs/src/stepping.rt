@@ -12,6 +12,7 @@ use symbol::Symbol;
 use updates::{get, put};
 
 // Makes a call. Quotes are taken into the slots of the hand and spent from there, whichever array they are of.
+// What is lent stays four parameters: a struct of them needs a clause for each loan, and one that is made gets no proof.
 pub fn step<X: Symbol, S: ColumnStore<X>>(
     array: &Array,
     store: &mut S,
