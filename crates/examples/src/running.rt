@@ -1,7 +1,7 @@
 use array::Array;
 use code::{Refusal, Shape};
 use recovery::{lose, quote};
-use runs::{Answer, Call, run};
+use runs::{Answer, Call, Outcome, run};
 use std::test::Fail;
 use store::{ColumnStore, Table};
 use symbol::{Byte, Symbol};
@@ -34,7 +34,7 @@ fn quotes_in_hand(rt: HostRuntime) -> Result<(), Fail> {
         Call::Rebuild { slot: 1 },
         Call::Get { column: 2, row: 3 },
     ];
-    let mut answers = [Answer::Unmade; 8];
+    let mut answers = [None; 8];
     assert!(rt;
         run(
             &array,
@@ -46,25 +46,18 @@ fn quotes_in_hand(rt: HostRuntime) -> Result<(), Fail> {
         ) == 8
     );
     let [_, _, lost, foreign, empty, quoted, back, got] = answers;
-    assert!(rt; matches!(lost, Answer::Lost));
-    assert!(rt;
-        matches!(
-            foreign,
-            Answer::Refused(Refusal::CountDiffers { count: 22 })
-        )
+    assert_eq!(rt; lost, Some(Ok(Answer::Lost)));
+    assert_eq!(rt; foreign, Some(Err(Refusal::CountDiffers { count: 22 })));
+    assert_eq!(rt; empty, None);
+    assert_eq!(rt;
+        quoted,
+        Some(Ok(Answer::Quoted {
+            column: 2,
+            count: 22,
+        }))
     );
-    assert!(rt; matches!(empty, Answer::Unmade));
-    assert!(rt;
-        matches!(
-            quoted,
-            Answer::Quoted {
-                column: 2,
-                count: 22,
-            }
-        )
-    );
-    assert!(rt; matches!(back, Answer::Reads(22)));
-    assert!(rt; matches!(got, Answer::Symbol(Byte { value: 7 })));
+    assert_eq!(rt; back, Some(Ok(Answer::Reads(22))));
+    assert_eq!(rt; got, Some(Ok(Answer::Symbol(Byte { value: 7 }))));
     let [foreign, spent] = hand;
     assert!(rt; foreign.is_some() && spent.is_none());
     Ok(())
@@ -83,10 +76,10 @@ fn room_for_answers(rt: HostRuntime) -> Result<(), Fail> {
         Call::Ask,
         Call::Lose { column: 2 },
     ];
-    let mut answers = [Answer::<Byte>::Unmade; 2];
+    let mut answers: [Outcome<Byte>; 2] = [None; 2];
     assert!(rt; run(&array, &mut table, &mut [], &mut work, &calls, &mut answers) == 2);
     let [_, asked] = answers;
-    assert!(rt; matches!(asked, Answer::Lowest(Some(1))));
+    assert_eq!(rt; asked, Some(Ok(Answer::Lowest(Some(1)))));
     assert!(rt; !table.is_lost(2));
     Ok(())
 }

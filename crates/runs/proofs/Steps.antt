@@ -9,32 +9,14 @@ use Rattle.recovery.specs.Rebuild.{Rebuilds}
 use Rattle.recovery.specs.declared.quotes.Quote.{Quote}
 use Rattle.recovery.specs.declared.quotes.Rejected.{Rejected}
 use Rattle.runs.specs.declared.calls.Call.TheVariants.{Get}
-use Rattle.runs.specs.declared.calls.Answer.{Answer}
-use Rattle.runs.specs.declared.calls.Answer.TheVariants.{Symbol, Unmade}
+use Rattle.runs.specs.declared.calls.Answer.TheVariants.{Symbol}
 use Rattle.runs.specs.Hands.{Hand, quote_at, spent}
-use Rattle.runs.specs.Steps.{State, state_of, told, told_rebuild, accepted, rebuild_event, RebuildsFrom, Tells, Stepped}
+use Rattle.runs.specs.Steps.{State, OutcomeOf, state_of, told, told_rebuild, accepted, rebuild_event, RebuildsFrom, Tells, Stepped}
 
 module _ {S X : Type 0} (view : S → View X) (none : X) (plus : X → X → X) (s : Shape) where
-  pub get_step :
-      (a z : State S X) (r : Answer X) (c row : ℕ) (given : Result X Refusal) → r ≡ told Symbol given → Gets view s a.store c row given z.store → Keeps none plus s looks (is_ok given) (view a.store) (view z.store) →
-      TellsTable none plus s (view a.store) c row given → z.hand ≡ a.hand → z.work ≡ a.work → Stepped view none plus s (Get c row) a r z
-  get_step a z r c row given is G K T hand work = record { made = (given, is, G, hand, work); keeps = subst (λ (b : Bool). Keeps none plus s looks b (view a.store) (view z.store)) (sym (ap accepted is ∙ as_given given)) K; tells = says given is T }
-    where
-      as_given : (given : Result X Refusal) → accepted (told Symbol given) ≡ is_ok given
-      as_given (Ok x) = refl
-      as_given (Err e) = refl
-
-      says : (given : Result X Refusal) → r ≡ told Symbol given → TellsTable none plus s (view a.store) c row given → Tells view none plus s (Get c row) a r
-      says (Ok x) is T d y v e said b A table t =
-          let same : x ≡ v = cc in
-          let column : c ≡ d = cc in
-          let place : row ≡ y = cc in
-          sym same ∙ T b A table t ∙ ap (λ m. table m row) column ∙ ap (table d) place
-      says (Err f) is T d y v e said b A table t = absurd (let w : ◌≡◌ {A = ℕ} 0 1 = cc in omega arith)
-
   -- with no quote in the slot
-  pub unspent : (slot : ℕ) (store : S) (hand hand' : Hand) (work : List X) → quote_at hand slot ≡ None → hand' ≡ hand → RebuildsFrom view none plus s (quote_at hand slot) slot (state_of store hand work) Unmade (state_of store hand' work)
-  unspent slot store hand hand' work e same = subst (λ q. RebuildsFrom view none plus s q slot (state_of store hand work) Unmade (state_of store hand' work)) (sym e) (refl, ap (λ h. state_of store h work) same)
+  pub unspent : (slot : ℕ) (store : S) (hand hand' : Hand) (work : List X) → quote_at hand slot ≡ None → hand' ≡ hand → RebuildsFrom view none plus s (quote_at hand slot) slot (state_of store hand work) (Ok None) (state_of store hand' work)
+  unspent slot store hand hand' work e same = subst (λ q. RebuildsFrom view none plus s q slot (state_of store hand work) (Ok None) (state_of store hand' work)) (sym e) (refl, ap (λ h. state_of store h work) same)
 
   -- with a quote
   pub spent_as :

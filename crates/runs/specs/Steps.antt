@@ -14,7 +14,7 @@ use Rattle.recovery.specs.declared.quotes.Rejected.{Rejected}
 use Rattle.runs.specs.declared.calls.Call.{Call}
 use Rattle.runs.specs.declared.calls.Call.TheVariants.{Found, Put, Get, Lose, Quote as TakeQuote, Rebuild, Audit, Ask}
 use Rattle.runs.specs.declared.calls.Answer.{Answer}
-use Rattle.runs.specs.declared.calls.Answer.TheVariants.{Reads, Symbol, Lost, Quoted, Audited, Lowest, Refused, Unmade}
+use Rattle.runs.specs.declared.calls.Answer.TheVariants.{Reads, Symbol, Lost, Quoted, Audited, Lowest}
 use Rattle.runs.specs.Hands.{Hand, quote_at, with_quote, spent}
 
 -- what calls may change: the store, the quotes in hand and the work area
@@ -26,28 +26,27 @@ pub record State (S X : Type 0) : Type 0 where
 abbrev pub state_of : {S X : Type 0} → S → Hand → List X → State S X
 state_of store hand work = record { store = store; hand = hand; work = work }
 
--- an answer, from what the call itself gave
-abbrev pub told : {X A : Type 0} → (A → Answer X) → Result A Refusal → Answer X
-told answer (Ok a) = answer a
-told answer (Err e) = Refused e
+-- what comes of a call; no answer if none was made
+abbrev pub OutcomeOf : Type 0 → Type 0
+OutcomeOf X = Result (Option (Answer X)) Refusal
+
+-- what comes of it, from what the call itself gave
+abbrev pub told : {X A : Type 0} → (A → Answer X) → Result A Refusal → OutcomeOf X
+told answer (Ok a) = Ok (Some (answer a))
+told answer (Err e) = Err e
 
 abbrev pub told_quote : {X : Type 0} → Quote → Answer X
 told_quote quote = Quoted quote.column quote.count
 
-abbrev pub told_rebuild : {X : Type 0} → Result ℕ Rejected → Answer X
-told_rebuild (Ok n) = Reads n
-told_rebuild (Err e) = Refused e.refusal
+abbrev pub told_rebuild : {X : Type 0} → Result ℕ Rejected → OutcomeOf X
+told_rebuild (Ok n) = Ok (Some (Reads n))
+told_rebuild (Err e) = Err e.refusal
 
 -- whether a call was made and accepted
-abbrev pub accepted : {X : Type 0} → Answer X → Bool
-accepted (Reads n) = true
-accepted (Symbol x) = true
-accepted Lost = true
-accepted (Quoted column count) = true
-accepted (Audited answer) = true
-accepted (Lowest column) = true
-accepted (Refused e) = false
-accepted Unmade = false
+abbrev pub accepted : {X : Type 0} → OutcomeOf X → Bool
+accepted (Ok (Some a)) = true
+accepted (Ok None) = false
+accepted (Err e) = false
 
 -- what the book hears of a rebuild from a slot
 abbrev pub rebuild_event : {X : Type 0} → Option Quote → Event X
@@ -66,20 +65,20 @@ event view a Audit = looks
 event view a Ask = looks
 
 -- a quote goes into a slot, if there is such a slot: g is the store's view
-abbrev pub QuotesInto : {X : Type 0} → Bool → Shape → View X → ℕ → ℕ → Hand → Answer X → Hand → Type 0
+abbrev pub QuotesInto : {X : Type 0} → Bool → Shape → View X → ℕ → ℕ → Hand → OutcomeOf X → Hand → Type 0
 QuotesInto true s g c slot hand r hand' = (given : Result Quote Refusal) × (r ≡ told told_quote given) × Quotes s g c given × (hand' ≡ with_quote hand slot given)
-QuotesInto false s g c slot hand r hand' = (r ≡ Unmade) × (hand' ≡ hand)
+QuotesInto false s g c slot hand r hand' = (r ≡ Ok None) × (hand' ≡ hand)
 
 module _ {S X : Type 0} (view : S → View X) (none : X) (plus : X → X → X) (s : Shape) where
   -- a rebuild from a slot, if a quote lies there
-  abbrev pub RebuildsFrom : Option Quote → ℕ → State S X → Answer X → State S X → Type 0
+  abbrev pub RebuildsFrom : Option Quote → ℕ → State S X → OutcomeOf X → State S X → Type 0
   RebuildsFrom (Some quote) slot a r z =
       (given : Result ℕ Rejected) × (r ≡ told_rebuild given) × Rebuilds view none plus s a.store quote a.work given z.store z.work ×
       (z.hand ≡ spent a.hand slot given)
-  RebuildsFrom None slot a r z = (r ≡ Unmade) × (z ≡ a)
+  RebuildsFrom None slot a r z = (r ≡ Ok None) × (z ≡ a)
 
-  -- from state a a call may answer r and leave state z: just what its own contract allows
-  abbrev pub Made : Call X → State S X → Answer X → State S X → Type 0
+  -- from state a r may come of a call and state z be left: just what its own contract allows
+  abbrev pub Made : Call X → State S X → OutcomeOf X → State S X → Type 0
   Made Found a r z =
       (given : Result ℕ Refusal) × (r ≡ told Reads given) × Founds view none plus s a.store a.work given z.store z.work ×
       (z.hand ≡ a.hand)
@@ -97,16 +96,16 @@ module _ {S X : Type 0} (view : S → View X) (none : X) (plus : X → X → X) 
   Made Audit a r z =
       (given : Result Bool Refusal) × (r ≡ told Audited given) × Audits view none plus s a.store a.work given z.store z.work ×
       (z.hand ≡ a.hand)
-  Made Ask a r z = (r ≡ Lowest (lowest_lost (counts_as_lost (view a.store)) (view a.store).columns)) × (z ≡ a)
+  Made Ask a r z = (r ≡ Ok (Some (Lowest (lowest_lost (counts_as_lost (view a.store)) (view a.store).columns)))) × (z ≡ a)
 
   -- an accepted get answers the data table's symbol, of every book with a table that agrees
-  abbrev pub Tells : Call X → State S X → Answer X → Type 0
+  abbrev pub Tells : Call X → State S X → OutcomeOf X → Type 0
   Tells call a r =
-      (c row : ℕ) (x : X) → call ≡ Get c row → r ≡ Symbol x →
+      (c row : ℕ) (x : X) → call ≡ Get c row → r ≡ Ok (Some (Symbol x)) →
       (b : Book X) → Agrees none plus s b (view a.store) → (table : ℕ → ℕ → X) → b.table ≡ Some table → x ≡ table c row
 
   -- one call: what it may do, that it keeps the book, and that a get tells the table's symbol
-  pub record Stepped (call : Call X) (a : State S X) (r : Answer X) (z : State S X) : Type 0 where
+  pub record Stepped (call : Call X) (a : State S X) (r : OutcomeOf X) (z : State S X) : Type 0 where
     pub made : Made call a r z
     pub keeps : Keeps none plus s (event view a call) (accepted r) (view a.store) (view z.store)
     pub tells : Tells call a r

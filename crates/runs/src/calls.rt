@@ -1,7 +1,7 @@
-// Calls on an array as values, and their answers.
+// Calls on an array as values, and what accepted ones answer.
 use code::Refusal;
 
-#[derive(Clone, Copy)]
+#[derive(Clone, Copy, PartialEq, Debug)]
 pub enum Call<X> {
     Found,
     Put {
@@ -30,7 +30,7 @@ pub enum Call<X> {
     Ask,
 }
 
-#[derive(Clone, Copy)]
+#[derive(Clone, Copy, PartialEq, Debug)]
 pub enum Answer<X> {
     // how many symbols a found, a put or a rebuild read
     Reads(usize),
@@ -44,7 +44,7 @@ pub enum Answer<X> {
     Audited(bool),
     // the lowest lost column, if there is one
     Lowest(Option<usize>),
-    Refused(Refusal),
-    // no call was made: the hand has no such slot, or no quote in it
-    Unmade,
 }
+
+// What comes of a call; no answer if none was made, for the hand has no such slot, or no quote in it.
+pub type Outcome<X> = Result<Option<Answer<X>>, Refusal>;

@@ -1,4 +1,4 @@
-// The quotes in hand.
+// The quotes in hand. They are taken and put by index: nothing is known of what a slice's `get_mut` wrote.
 ghost use Rattle.std.specs.Prelude.{◌≡◌};
 ghost use Rattle.runs.specs.Hands.{quote_at, without, holding};
 

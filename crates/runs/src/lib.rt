@@ -7,6 +7,6 @@ mod quoted;
 mod running;
 mod stepping;
 
-pub use calls::{Answer, Call};
+pub use calls::{Answer, Call, Outcome};
 pub use running::run;
 pub use stepping::step;

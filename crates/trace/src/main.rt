@@ -14,7 +14,7 @@ use array::Array;
 use code::Shape;
 use frames::Frames;
 use recovery::Quote;
-use runs::{Answer, Call, run};
+use runs::{Call, run};
 use store::{ColumnStore, Table};
 use symbol::{Byte, Stand, Symbol};
 
@@ -28,12 +28,9 @@ fn play<X: Symbol, S: ColumnStore<X>>(
     calls: &[Call<X>],
 ) -> anyhow::Result<()> {
     let array = Array::open(shape, store);
-    let mut answers = Vec::new(rt.alloc());
-    for _ in calls {
-        answers.push(Answer::Unmade)?;
-    }
+    let mut answers = vec![in rt.alloc(); None; calls.len()]?;
     run(&array, store, hand, work, calls, &mut answers);
-    for answer in answers.iter() {
+    for answer in &answers {
         tell(rt, *answer)?;
     }
     tell_store(rt, store)

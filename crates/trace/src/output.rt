@@ -1,5 +1,5 @@
 // What is printed: answers, and what a store holds.
-use runs::Answer;
+use runs::{Answer, Outcome};
 use std::alloc::Global;
 use store::ColumnStore;
 use symbol::Symbol;
@@ -14,8 +14,21 @@ fn digits<X: Symbol>(heap: Global, symbol: X, text: &mut [u8]) -> anyhow::Result
     Ok(out)
 }
 
-// One line for an answer.
-pub(crate) fn tell<X: Symbol>(rt: &HostRuntime, answer: Answer<X>) -> anyhow::Result<()> {
+// One line for what came of a call.
+pub(crate) fn tell<X: Symbol>(rt: &HostRuntime, outcome: Outcome<X>) -> anyhow::Result<()> {
+    let answer = match outcome {
+        Some(Ok(answer)) => answer,
+        Some(Err(refusal)) => {
+            let number = refusal.number();
+            let [a, b] = refusal.values();
+            println!(rt; " refused {number} {a} {b}")?;
+            return Ok(());
+        }
+        None => {
+            println!(rt; " unmade")?;
+            return Ok(());
+        }
+    };
     match answer {
         Answer::Reads(count) => println!(rt; " reads {count}")?,
         Answer::Symbol(symbol) => {
@@ -29,12 +42,6 @@ pub(crate) fn tell<X: Symbol>(rt: &HostRuntime, answer: Answer<X>) -> anyhow::Re
         Answer::Audited(false) => println!(rt; " audit no")?,
         Answer::Lowest(Some(column)) => println!(rt; " lowest {column}")?,
         Answer::Lowest(None) => println!(rt; " lowest none")?,
-        Answer::Refused(refusal) => {
-            let number = refusal.number();
-            let [a, b] = refusal.values();
-            println!(rt; " refused {number} {a} {b}")?;
-        }
-        Answer::Unmade => println!(rt; " unmade")?,
     }
     Ok(())
 }
