@@ -39,6 +39,7 @@ pub(crate) fn read_hex(part: &[u8], bytes: &mut [u8]) -> Option<()>
     if part.len() != 2 * bytes.len() {
         return None;
     }
+    // By index: of a zip with `iter_mut` a proof knows no element that was written.
     for (i, byte) in bytes.iter_mut().enumerate() {
         *byte = pair(part[2 * i], part[2 * i + 1])?;
     }
