@@ -27,9 +27,7 @@ fn value(b: u8) -> Option<u8>
 fn pair(high: u8, low: u8) -> Option<u8>
     ensures { result ≡ (if is_digit high then (if is_digit low then Some (16 * worth high + worth low) else None) else None) }
 {
-    let high = value(high)?;
-    let low = value(low)?;
-    Some(16 * high + low)
+    Some(16 * value(high)? + value(low)?)
 }
 
 // Fills `bytes` from twice as many digits. None exactly if the part is anything else.
@@ -39,6 +37,7 @@ pub(crate) fn read_hex(part: &[u8], bytes: &mut [u8]) -> Option<()>
     if part.len() != 2 * bytes.len() {
         return None;
     }
+    // By index: of a zip with `iter_mut` a proof knows no element that was written.
     for (i, byte) in bytes.iter_mut().enumerate() {
         *byte = pair(part[2 * i], part[2 * i + 1])?;
     }
