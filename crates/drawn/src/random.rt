@@ -1,7 +1,10 @@
 // Numbers and symbols that are drawn.
-ghost use Rattle.std.specs.Prelude.{◌≡◌, ℕ, ◌*◌, ◌/◌, ◌^◌, ◌<◌, length, slice_index_or};
-ghost use Rattle.drawn.specs.Drawn.{next, after, drawn_bytes, drawn_symbol};
+ghost use Rattle.std.specs.Prelude.{◌≡◌, ◌*◌, ◌/◌, ◌^◌, ◌++◌, replicate, IfOk, OnOk};
+ghost use Rattle.code.specs.Shapes.{parities_of, rows_of};
+ghost use Rattle.drawn.specs.Drawn.{next, after, drawn_bytes, drawn_symbol, drawn_symbols};
 
+use code::Shape;
+use std::alloc::{AllocError, Global};
 use symbol::Symbol;
 
 // A linear congruential generator: the high byte of each state is taken.
@@ -37,13 +40,20 @@ impl Random {
         X::read_bytes(&bytes[..X::width()]).unwrap_or(X::zero())
     }
 
-    // A symbol into each cell.
-    pub fn fill<X: Symbol>(&mut self, cells: &mut [X])
-        ensures cells { (i : ℕ) → i < length cells.old → slice_index_or cells.new i X.Symbol.zero ≡ drawn_symbol X.Symbol.width X.Symbol.symbol (after (16 * i) self.old.0) }
-        ensures state { self.new.0 ≡ after (16 * length cells.old) self.old.0 }
+    // The symbols of an array that is not founded yet, its columns one after another: the data columns are drawn, the
+    // parity columns are zero.
+    pub fn array<X: Symbol>(&mut self, heap: Global, shape: Shape) -> Result<Vec<X>, AllocError>
+        ensures cells { IfOk result (λ cells. cells.items ≡ drawn_symbols X.Symbol.width X.Symbol.symbol (shape.k * rows_of shape) self.old.0 ++ replicate (parities_of shape * rows_of shape) X.Symbol.zero) }
+        ensures state { OnOk result (self.new.0 ≡ after (16 * (shape.k * rows_of shape)) self.old.0) }
     {
-        for cell in cells.iter_mut() {
-            *cell = self.symbol();
+        let rows = shape.rows();
+        let mut cells = Vec::new(heap);
+        for _drawn in 0..shape.k * rows {
+            cells.push(self.symbol())?;
         }
+        for _zero in 0..shape.parities() * rows {
+            cells.push(X::zero())?;
+        }
+        Ok(cells)
     }
 }

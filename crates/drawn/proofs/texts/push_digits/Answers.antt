@@ -1,4 +1,4 @@
-use Rattle.std.proofs.Common.{◌≡◌, ◌*◌, length, sym, ap, ◌∙◌, arith, rules}
+use Rattle.std.proofs.Common.{◌≡◌, ◌*◌, length, sym, ap, ◌∙◌, rules}
 use Rattle.symbol.specs.Hex.{hex}
 use Rattle.symbol.proofs.Digits.{length_hex}
 use Rattle.frames.proofs.Texts.{wrote}

@@ -1,4 +1,4 @@
-use Rattle.std.proofs.Common.{◌≡◌, ◌≤◌, length, take, unwrap_or, sym, ap, ap₂, ◌∙◌, arith}
+use Rattle.std.proofs.Common.{◌≡◌, length, take, unwrap_or, sym, ap, ap₂, ◌∙◌, arith}
 use Rattle.drawn.proofs.Drawn.{part_long, whole}
 use Rattle.drawn.proofs.random.Random.symbol.Goals as goal
 
