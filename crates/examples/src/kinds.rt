@@ -1,12 +1,12 @@
 // Examples of each kind: its digits and bytes both ways, what is refused, edge values and sums.
-use symbol::{Byte, Stand, Symbol};
+use symbol::{Byte, Stand, Symbol, WrongLength};
 
 #[test]
 fn byte_digits(rt: HostRuntime) {
     let x = Byte { value: 0x5A };
     assert_eq!(rt; Byte::read_digits(b"5A"), Some(x));
     let mut part = [0u8; 2];
-    assert!(rt; x.write_digits(&mut part));
+    assert_eq!(rt; x.write_digits(&mut part), Ok(()));
     assert_eq!(rt; part, *b"5A");
 }
 
@@ -17,8 +17,8 @@ fn byte_refuses(rt: HostRuntime) {
     assert_eq!(rt; Byte::read_digits(b"5A0"), None);
     assert_eq!(rt; Byte::read_bytes(&[1, 2]), None);
     let mut part = [7u8; 3];
-    assert!(rt; !Byte { value: 1 }.write_digits(&mut part));
-    assert!(rt; !Byte { value: 1 }.write_bytes(&mut part));
+    assert_eq!(rt; Byte { value: 1 }.write_digits(&mut part), Err(WrongLength));
+    assert_eq!(rt; Byte { value: 1 }.write_bytes(&mut part), Err(WrongLength));
     assert_eq!(rt; part, [7, 7, 7]);
 }
 
@@ -39,7 +39,7 @@ fn stand_bytes(rt: HostRuntime) {
     };
     assert_eq!(rt; Stand::read_bytes(&[1, 2, 3, 4, 5, 6]), Some(x));
     let mut part = [0u8; 6];
-    assert!(rt; x.write_bytes(&mut part));
+    assert_eq!(rt; x.write_bytes(&mut part), Ok(()));
     assert_eq!(rt; part, [1, 2, 3, 4, 5, 6]);
 }
 
@@ -51,7 +51,7 @@ fn stand_digits(rt: HostRuntime) {
     };
     assert_eq!(rt; Stand::read_digits(b"010203040506"), Some(x));
     let mut part = [0u8; 12];
-    assert!(rt; x.write_digits(&mut part));
+    assert_eq!(rt; x.write_digits(&mut part), Ok(()));
     assert_eq!(rt; part, *b"010203040506");
 }
 
@@ -64,9 +64,9 @@ fn stand_edges(rt: HostRuntime) {
     assert_eq!(rt; Stand::read_digits(b"FFFFFFFFFFFF"), Some(full));
     assert_eq!(rt; Stand::read_digits(b"000000000000"), Some(Stand::zero()));
     let mut part = [0u8; 12];
-    assert!(rt; full.write_digits(&mut part));
+    assert_eq!(rt; full.write_digits(&mut part), Ok(()));
     assert_eq!(rt; part, *b"FFFFFFFFFFFF");
-    assert!(rt; Stand::zero().write_digits(&mut part));
+    assert_eq!(rt; Stand::zero().write_digits(&mut part), Ok(()));
     assert_eq!(rt; part, *b"000000000000");
 }
 
@@ -76,8 +76,8 @@ fn stand_refuses(rt: HostRuntime) {
     assert_eq!(rt; Stand::read_digits(b"01020304050"), None);
     assert_eq!(rt; Stand::read_bytes(&[1, 2, 3, 4, 5]), None);
     let mut part = [7u8; 5];
-    assert!(rt; !Stand::zero().write_digits(&mut part));
-    assert!(rt; !Stand::zero().write_bytes(&mut part));
+    assert_eq!(rt; Stand::zero().write_digits(&mut part), Err(WrongLength));
+    assert_eq!(rt; Stand::zero().write_bytes(&mut part), Err(WrongLength));
     assert_eq!(rt; part, [7, 7, 7, 7, 7]);
 }
 

@@ -1,45 +1,58 @@
--- What new frames mean.
-use Rattle.std.proofs.Common.{◌≡◌, ℕ, Bool, true, cond, List, length, is_some, Some, None, sym, refl, ap, ◌∙◌, ap₂, arith, MutBor}
+-- What new frames are.
+use Rattle.std.proofs.Common.{◌≡◌, ℕ, ◌*◌, ◌≤◌, Bool, true, false, cond, List, length, is_some, Some, None, Option, refl, ap, ◌∙◌, ap₂, arith}
 use Rattle.code.specs.declared.refusal.Refusal.{Refusal}
 use Rattle.code.specs.declared.shape.Shape.{Shape}
 use Rattle.code.specs.Shapes.{columns_of, rows_of}
-use Rattle.frames.specs.Lines.{stride, is_whole}
+use Rattle.frames.specs.Lines.{stride}
 use Rattle.frames.specs.Format.{marks_in, symbols_in}
 use Rattle.frames.specs.Checks.{text_refusal}
-use Rattle.frames.specs.Stores.{frames_view, Over, WellFormed}
-use Rattle.frames.specs.declared.frames.Frames.{Frames}
-use Rattle.frames.proofs.Places.{rows_some, is_whole_from}
+use Rattle.frames.specs.Stores.{refused, Over}
+use Rattle.frames.proofs.Places.{rows_some}
 use Rattle.frames.proofs.Sound.{sound, never}
+use Rattle.frames.proofs.Views.{view}
 
-module _ {X : Type 0} (none : X) (w : ℕ) (symbol : List ℕ → X) (s : Shape) (x : MutBor (List ℕ)) (kind : List X) where
-  abbrev made : ℕ → ℕ → Frames X
-  made m n = record { columns = m; rows = n; text = x; meter = 0; kind = kind }
+-- the columns and rows of frames over a text: those of the shape, or none where the check refuses it
+pub record Sized (w : ℕ) (s : Shape) (text : List ℕ) (m n : ℕ) : Type 0 where
+  pub columns : m ≡ cond (refused s w text) 0 (columns_of s)
+  pub rows : n ≡ cond (refused s w text) 0 (rows_of s)
 
-  -- over a text that the check refuses
-  pub over_refused : (e : Refusal) → text_refusal (columns_of s) (rows_of s) w x.now ≡ Some e → Over none w symbol s x.now x.ghost_name (frames_view none w symbol (made 0 0)) × (text_refusal (columns_of s) (rows_of s) w x.now ≡ None → WellFormed w (made 0 0))
-  over_refused e h = (
-    record {
-      columns = sym (ap (λ o. cond (is_some o) 0 (columns_of s)) h);
-      rows = sym (ap (λ o. cond (is_some o) 0 (rows_of s)) h);
-      at = λ c r inside. absurd (omega (arith, inside.2));
-      lost = λ c column. absurd (omega (arith, column.0, column.1));
-      meter = refl;
-      lender = refl;
-    },
-    λ passes. absurd (never e (sym h ∙ passes)),
-  )
+module _ (w : ℕ) (s : Shape) (text : List ℕ) where
+  abbrev refusal : Option Refusal
+  refusal = text_refusal (columns_of s) (rows_of s) w text
 
-  -- over one that it passes, by the numbers that a call worked out
-  pub over_passed : (m n : ℕ) → m ≡ columns_of s → n ≡ rows_of s → text_refusal (columns_of s) (rows_of s) w x.now ≡ None → Over none w symbol s x.now x.ghost_name (frames_view none w symbol (made m n)) × (text_refusal (columns_of s) (rows_of s) w x.now ≡ None → WellFormed w (made m n))
-  over_passed m n m-is n-is h =
-      let whole : is_whole (stride w) m n (length x.now) ≡ true = ap₂ (λ m n. is_whole (stride w) m n (length x.now)) m-is n-is ∙ is_whole_from (stride w) (columns_of s) (rows_of s) (length x.now) (rows_some s) (sound (columns_of s) (rows_of s) w x.now h).long in (
-        record {
-          columns = ap (λ (b : Bool). cond b m 0) whole ∙ m-is ∙ sym (ap (λ o. cond (is_some o) 0 (columns_of s)) h);
-          rows = ap (λ (b : Bool). cond b n 0) whole ∙ n-is ∙ sym (ap (λ o. cond (is_some o) 0 (rows_of s)) h);
-          at = λ c r inside. ap (λ n. symbols_in none n w symbol x.now c r) n-is;
-          lost = λ c column. ap (λ n. marks_in n w x.now c) n-is;
-          meter = refl;
-          lender = refl;
-        },
-        λ passes. ap₂ (λ m n. text_refusal m n w x.now) m-is n-is ∙ h,
-      )
+  pub sized_passed : (m n : ℕ) → m ≡ columns_of s → n ≡ rows_of s → refusal ≡ None → Sized w s text m n
+  sized_passed m n p q h = record { columns = rw h p; rows = rw h q }
+
+  pub sized_refused : (m n : ℕ) (e : Refusal) → m ≡ 0 → n ≡ 0 → refusal ≡ Some e → Sized w s text m n
+  sized_refused m n e p q h = record { columns = rw h p; rows = rw h q }
+
+  -- whichever it is
+  cases : (m n : ℕ) (P : Type 0) → Sized w s text m n → (m ≡ 0 → n ≡ 0 → (refusal ≡ None → ⊥) → P) → (m ≡ columns_of s → n ≡ rows_of s → refusal ≡ None → P) → P
+  cases m n P sized empty full = go refusal refl
+    where
+      go : (o : Option Refusal) → refusal ≡ o → P
+      go None h = full (sized.columns ∙ rw h refl) (sized.rows ∙ rw h refl) h
+      go (Some e) h = empty (sized.columns ∙ rw h refl) (sized.rows ∙ rw h refl) (rw h (never e))
+
+  pub some_of : (m n : ℕ) → Sized w s text m n → 1 ≤ m → 1 ≤ n
+  some_of m n sized h = cases m n (1 ≤ n) sized (λ p q _. absurd (omega arith)) (λ p q _. omega (arith, rows_some s))
+
+  pub room_of : (m n : ℕ) → Sized w s text m n → m * n * stride w ≤ length text
+  room_of m n sized = cases m n (m * n * stride w ≤ length text) sized (λ p q _. rw (p, q) (omega arith)) (λ p q h. rw (p, q) (let l = (sound (columns_of s) (rows_of s) w text h).long in omega arith))
+
+  pub formed_of : (m n : ℕ) → Sized w s text m n → refusal ≡ None → text_refusal m n w text ≡ None
+  formed_of m n sized h = cases m n (text_refusal m n w text ≡ None) sized (λ _ _ not. absurd (not h)) (λ p q h. rw (p, q) h)
+
+  -- what they mean
+  pub over_of : {X : Type 0} (none : X) (symbol : List ℕ → X) (owner m n : ℕ) → Sized w s text m n → Over none w symbol s text owner (view none w symbol m n 0 owner text)
+  over_of none symbol owner m n sized = record {
+    columns = sized.columns;
+    rows = sized.rows;
+    at = λ c r inside. ap (λ n. symbols_in none n w symbol text c r) (same_rows inside.0 inside.1);
+    lost = λ c column. ap (λ n. marks_in n w text c) (same_rows column.0 column.1);
+    meter = refl;
+    lender = refl;
+  }
+    where
+      same_rows : {c : ℕ} → 1 ≤ c → c ≤ m → n ≡ rows_of s
+      same_rows one last = cases m n (n ≡ rows_of s) sized (λ p q _. absurd (omega arith)) (λ p q _. q)

@@ -1,7 +1,6 @@
 -- Lines, and the columns and rows that they are of.
 use Rattle.std.proofs.Common.{◌≡◌, ℕ, ◌+◌, ◌-◌, ◌*◌, ◌/◌, ◌%◌, ◌<◌, ◌≤◌, true, false, ap, ◌∙◌, mul-le-mul_right, mul_assoc, mul_comm, div-lt_iff_lt-mul, div-add-mod', arith}
 use Rattle.std.proofs.lemmas.Bool.Decides.{nat_tests}
-use Rattle.frames.specs.Lines.{is_whole}
 use Rattle.code.specs.declared.shape.Shape.{Shape}
 use Rattle.code.specs.Shapes.{columns_of, rows_of}
 use Rattle.code.specs.Places.{place_of}
@@ -33,28 +32,12 @@ place_column c r n one within = omega (arith, div-mul-add (c - 1) n r within)
 pub place_row : (c r n : ℕ) → r < n → place_of n c r % n ≡ r
 place_row c r n within = mod-mul-add (c - 1) n r within
 
--- a product with a factor that is not 0
-pub product_le : (n s : ℕ) → 1 ≤ s → n ≤ n * s
-product_le n s one = let h : 1 * n ≤ s * n = mul-le-mul_right n one in omega (arith, mul_comm s n)
-
 -- the line of a place lies in the text
-pub place_fits : (c r m n s size : ℕ) → 1 ≤ s → 1 ≤ c → c ≤ m → r < n → size ≡ m * n * s → (place_of n c r * s + s ≤ size) × (place_of n c r ≤ size)
-place_fits c r m n s size some one last within e =
+pub place_fits : (c r m n s size : ℕ) → 1 ≤ c → c ≤ m → r < n → m * n * s ≤ size → place_of n c r * s + s ≤ size
+place_fits c r m n s size one last within room =
     let low : place_of n c r + 1 ≤ m * n = omega (arith, place_low c r m n one last within) in
     let h : (place_of n c r + 1) * s ≤ m * n * s = mul-le-mul_right s low in
-    (omega arith, omega (arith, product_le (place_of n c r) s some))
-
-pub whole_size : (s m n size : ℕ) → is_whole s m n size ≡ true → size ≡ m * n * s
-whole_size s m n size h = grind (arith, nat_tests)
-
--- a product that is too large is no size
-pub too_large : (s m n size top : ℕ) → 1 ≤ s → size < top → top ≤ m * n → is_whole s m n size ≡ false
-too_large s m n size top some low high =
-    let ne : size ≡ m * n * s → ⊥ = λ e. omega (arith, product_le (m * n) s some) in
-    grind (arith, nat_tests)
-
-pub is_whole_from : (s m n size : ℕ) → 1 ≤ n → size ≡ m * n * s → is_whole s m n size ≡ true
-is_whole_from s m n size some e = grind (arith, nat_tests)
+    omega arith
 
 -- the lines of a column lie in the text
 pub column_fits : (c m n s size : ℕ) → 1 ≤ c → c ≤ m → size ≡ m * n * s → (c - 1) * (n * s) + n * s ≤ size

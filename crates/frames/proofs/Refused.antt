@@ -10,32 +10,28 @@ use Rattle.frames.specs.Lines.{stride, line_at, mark_at}
 use Rattle.frames.specs.Checks.{is_frame, differs, line_refusal, lines_refusal, text_refusal, Told}
 
 module _ (rows w : ℕ) (text : List ℕ) (i : ℕ) where
-  -- line i is cut out of the text
-  cut : (at s : ℕ) → at ≡ i * s → s ≡ stride w → take (at + s - at) (drop at text) ≡ line_at w text i
-  cut at s e h =
-      let n : at + s - at ≡ stride w = omega arith in
-      let p : at ≡ i * stride w = e ∙ ap (λ k. i * k) h in
-      ap₂ (λ k p. take k (drop p text)) n p
-
   -- what the two tests of line i answer decides it
   pub told : (frame other : Bool) → frame ≡ is_frame w (i / rows + 1) (i % rows) (line_at w text i) → other ≡ differs rows w text i → line_refusal rows w text i ≡ refuse (not frame) (BadFrame (i + 1)) (refuse other (MarkDiffers (i + 1)) None)
   told frame other p q = ap₂ (λ (b d : Bool). refuse (not b) (BadFrame (i + 1)) (refuse d (MarkDiffers (i + 1)) None)) (sym p) (sym q)
 
-  module _ (at first s : ℕ) (at-is : at ≡ i * s) (s-is : s ≡ stride w) (frame : Bool) (framed : frame ≡ is_frame w (i / rows + 1) (i % rows) (take (at + s - at) (drop at text))) where
+  -- the tests as a call makes them, that worked out the bytes of a line
+  module _ (s : ℕ) (s-is : s ≡ stride w) (frame : Bool) (framed : frame ≡ is_frame w (i / rows + 1) (i % rows) (take (i * s + s - i * s) (drop (i * s) text))) where
     framed_at : frame ≡ is_frame w (i / rows + 1) (i % rows) (line_at w text i)
-    framed_at = framed ∙ ap (is_frame w (i / rows + 1) (i % rows)) (cut at s at-is s-is)
+    framed_at =
+        let n : i * s + s - i * s ≡ s = omega arith in
+        framed ∙ ap (λ k. is_frame w (i / rows + 1) (i % rows) (take k (drop (i * s) text))) n ∙ ap (λ k. is_frame w (i / rows + 1) (i % rows) (take k (drop (i * k) text))) s-is
 
     pub no_frame : frame ≡ false → line_refusal rows w text i ≡ Some (BadFrame (i + 1))
     no_frame h = told false _ (sym h ∙ framed_at) refl
 
-    marks : first ≡ i / rows * rows * s → eqb (get_or text at 0) (get_or text first 0) ≡ eqb (mark_at w text i) (mark_at w text (i / rows * rows))
-    marks e = ap₂ (λ a b. eqb (get_or text a 0) (get_or text b 0)) (at-is ∙ ap (λ k. i * k) s-is) (e ∙ ap (λ k. i / rows * rows * k) s-is)
+    marks : eqb (get_or text (i * s) 0) (get_or text (i / rows * rows * s) 0) ≡ eqb (mark_at w text i) (mark_at w text (i / rows * rows))
+    marks = ap (λ k. eqb (get_or text (i * k) 0) (get_or text (i / rows * rows * k) 0)) s-is
 
-    pub other_mark : frame ≡ true → first ≡ i / rows * rows * s → (get_or text at 0 ≡ get_or text first 0 → ⊥) → line_refusal rows w text i ≡ Some (MarkDiffers (i + 1))
-    other_mark h e ne = told true true (sym h ∙ framed_at) (ap not (sym (ne_eqb _ _ ne) ∙ marks e))
+    pub other_mark : frame ≡ true → (get_or text (i * s) 0 ≡ get_or text (i / rows * rows * s) 0 → ⊥) → line_refusal rows w text i ≡ Some (MarkDiffers (i + 1))
+    other_mark h ne = told true true (sym h ∙ framed_at) (ap not (sym (ne_eqb _ _ ne) ∙ marks))
 
-    pub passed : frame ≡ true → first ≡ i / rows * rows * s → get_or text at 0 ≡ get_or text first 0 → line_refusal rows w text i ≡ None
-    passed h e same = told true false (sym h ∙ framed_at) (ap not (sym (eq-eqb _ _ same) ∙ marks e))
+    pub passed : frame ≡ true → get_or text (i * s) 0 ≡ get_or text (i / rows * rows * s) 0 → line_refusal rows w text i ≡ None
+    passed h same = told true false (sym h ∙ framed_at) (ap not (sym (eq-eqb _ _ same) ∙ marks))
 
 module _ (rows w : ℕ) (text : List ℕ) where
   -- a line passes

@@ -1,7 +1,7 @@
 -- A line is a frame exactly if its mark, label, digits and end are a frame's.
 use Rattle.std.proofs.Common.{◌≡◌, ℕ, ◌+◌, ◌-◌, ◌*◌, Bool, true, false, ◌&&◌, eqb, List, [], ◌∷◌, ◌++◌, length, get_or, take, drop, sym, refl, ap, ◌∙◌, ap₂, arith}
 use Rattle.std.specs.Str.{bytes_eq}
-use Rattle.std.proofs.lemmas.List.{take_all, take_at, drop_at, append_cancel_left}
+use Rattle.std.proofs.lemmas.List.{take_all, take_at, drop_at, append_cancel_left, take-take, drop-take, drop-drop}
 use Rattle.std.proofs.lemmas.Slice.Eq.{bytes_eq-Decides}
 use Rattle.std.proofs.lemmas.Bool.{and_from, and_parts, eq-eqb, eqb-true}
 use Rattle.symbol.specs.Hex.{is_hex}
@@ -54,13 +54,14 @@ by_parts w c r line h =
     ap (λ (l : List ℕ). is_mark m && (is_hex (2 * w) ds && bytes_eq l (m ∷ (label c r ++ (ds ++ (10 ∷ [])))))) (line_is w line h)
     ∙ ap (λ (b : Bool). is_mark m && (is_hex (2 * w) ds && b)) (same_lines m (part line 1 9) (label c r) ds (get_or line (10 + 2 * w) 0) 10 n refl)
 
--- and with the answers of its four tests
-pub tested : (w c r : ℕ) (line : List ℕ) (end : ℕ) → length line ≡ stride w → end ≡ length line - 1 →
-    (m d l e : Bool) → m ≡ is_mark (get_or line 0 0) → d ≡ is_hex (2 * w) (take (end - 10) (drop 10 line)) → l ≡ bytes_eq (part line 1 9) (label c r) → e ≡ eqb (get_or line end 0) 10 →
+-- and, where the line is cut in parts, with the answers of its four tests
+pub tested : (w c r : ℕ) (line start digits : List ℕ) → length line ≡ stride w →
+    start ≡ take 9 (take (length line - 1 - 1) (drop 1 line)) → digits ≡ drop 9 (take (length line - 1 - 1) (drop 1 line)) →
+    (m d l e : Bool) → m ≡ is_mark (get_or line 0 0) → d ≡ is_hex (2 * w) digits → l ≡ bytes_eq start (label c r) → e ≡ eqb (get_or line (length line - 1) 0) 10 →
     (m && (d && (l && e))) ≡ is_frame w c r line
-tested w c r line end h n m d l e mark digits same last =
-    let digits-end : end - 10 ≡ 2 * w = omega arith in
-    let line-end : end ≡ 10 + 2 * w = omega arith in
-    let dd : d ≡ is_hex (2 * w) (part line 10 (2 * w)) = digits ∙ ap (λ k. is_hex (2 * w) (part line 10 k)) digits-end in
-    let ee : e ≡ eqb (get_or line (10 + 2 * w) 0) 10 = last ∙ ap (λ k. eqb (get_or line k 0) 10) line-end in
-    ap₂ ◌&&◌ mark (ap₂ ◌&&◌ dd (ap₂ ◌&&◌ same ee)) ∙ sym (by_parts w c r line h)
+tested w c r line start digits long start-is digits-is m d l e mark hexed labelled ended =
+    let n : length line - 1 - 1 ≡ 9 + 2 * w = omega arith in
+    let last : length line - 1 ≡ 10 + 2 * w = omega arith in
+    let front : start ≡ part line 1 9 = start-is ∙ take-take 9 (length line - 1 - 1) (drop 1 line) (omega arith) in
+    let middle : digits ≡ part line 10 (2 * w) = digits-is ∙ ap (λ k. drop 9 (take k (drop 1 line))) n ∙ drop-take 9 (2 * w) (drop 1 line) ∙ ap (take (2 * w)) (drop-drop 9 1 line) in
+    rw (mark, hexed, labelled, ended, front, middle, last) (sym (by_parts w c r line long))

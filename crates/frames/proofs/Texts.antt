@@ -1,5 +1,5 @@
 -- What a write to a text comes to: parts of it, lines and marks.
-use Rattle.std.proofs.Common.{◌≡◌, ℕ, zero, suc, ◌+◌, ◌*◌, ◌<◌, ◌≤◌, Bool, true, false, ◌≢◌, ◌⊎◌, List, [], ◌∷◌, ◌++◌, length, get_or, take, drop, set, sym, refl, ap, ◌∙◌, ap₂, inl, inr, mul-le-mul_right, arith}
+use Rattle.std.proofs.Common.{◌≡◌, ℕ, zero, suc, ◌+◌, ◌*◌, ◌<◌, ◌≤◌, Ok, Err, Result, IfOk, ◌≢◌, ◌⊎◌, List, [], ◌∷◌, ◌++◌, length, get_or, take, drop, set, sym, refl, ap, ◌∙◌, ap₂, inl, inr, mul-le-mul_right, arith}
 use borrow.Rule.Slice.PartMut.{put_mid}
 use Rattle.std.proofs.lemmas.List.{drop-drop, drop_at, take_at, length-append, length-drop, length-take-le, drop-take, take-set-le, drop-set-lt, drop-set-add, length-set, get_or-set_same, get_or-set_other}
 use Rattle.std.proofs.lemmas.Slice.{take-put_mid_below, drop-put_mid}
@@ -9,9 +9,9 @@ use Rattle.frames.specs.Lines.{stride, part, line_at, mark_at, digits_at, over, 
 use Rattle.frames.proofs.Parts.{part_split, part_part, get_d_part}
 
 -- a part of the right length is written
-pub wrote : (bytes before after : List ℕ) (b : Bool) → Wrote bytes before after b → length before ≡ length bytes → after ≡ bytes
-wrote bytes before after true h e = h.1
-wrote bytes before after false h e = absurd (h.0 e)
+pub wrote : {E P : Type 0} (bytes before after : List ℕ) (r : Result Unit E) → Wrote bytes before after r → IfOk r (λ _. P) → length before ≡ length bytes → (after ≡ bytes) × P
+wrote bytes before after (Ok done) h p long = (h.1, p)
+wrote bytes before after (Err e) h p long = absurd (h.0 long)
 
 pub mid_over : (a k : ℕ) (xs ys zs : List ℕ) → ys ≡ zs → length ys ≡ k → put_mid a k xs ys ≡ over xs a zs
 mid_over a k xs ys zs e h =

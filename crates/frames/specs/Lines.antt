@@ -1,5 +1,7 @@
 -- Where the lines of a text lie, at symbols of w bytes: each has a mark, a label of nine bytes, 2 * w digits and a newline.
-use Rattle.std.specs.Prelude.{◌≡◌, ℕ, zero, suc, ◌+◌, ◌*◌, ◌<◌, ◌≤◌, Bool, true, false, cond, List, ◌++◌, length, take, drop, Some, None, Option, ◌==◌, nat_lt, slice_index, slice_set}
+use Rattle.std.specs.Prelude.{◌≡◌, ℕ, zero, suc, ◌+◌, ◌*◌, ◌<◌, ◌≤◌, Bool, true, false, cond, List, ◌++◌, length, take, drop, Ok, Err, Result, ◌==◌, nat_lt, slice_index, slice_set}
+use Rattle.code.specs.declared.refusal.Refusal.{Refusal}
+use Rattle.code.specs.declared.refusal.Refusal.TheVariants.{NoSuchPlace}
 use Rattle.code.specs.Places.{place_of}
 
 -- the bytes of a line
@@ -20,14 +22,10 @@ mark_at w text i = slice_index text (i * stride w)
 abbrev pub digits_at : ℕ → List ℕ → ℕ → List ℕ
 digits_at w text i = part text (i * stride w + 10) (2 * w)
 
--- whether a text of that size is so many columns and rows of lines of s bytes
-abbrev pub is_whole : ℕ → ℕ → ℕ → ℕ → Bool
-is_whole s columns rows size = cond (nat_lt 0 rows) (size == columns * rows * s) false
-
--- where the line of a place begins; none outside, or if the text's size is another
-abbrev pub Placed : ℕ → ℕ → ℕ → ℕ → ℕ → ℕ → Option ℕ → Type 0
-Placed s columns rows size c r (Some a) = (is_whole s columns rows size ≡ true) × (1 ≤ c) × (c ≤ columns) × (r < rows) × (a ≡ place_of rows c r * s) × (a + s ≤ size)
-Placed s columns rows size c r None = is_whole s columns rows size ≡ true → 1 ≤ c → c ≤ columns → r < rows → ⊥
+-- where the line of a place begins; refused outside
+abbrev pub Placed : ℕ → ℕ → ℕ → ℕ → ℕ → ℕ → Result ℕ Refusal → Type 0
+Placed s columns rows size c r (Ok a) = (1 ≤ c) × (c ≤ columns) × (r < rows) × (a ≡ place_of rows c r * s) × (a + s ≤ size)
+Placed s columns rows size c r (Err e) = (1 ≤ c → c ≤ columns → r < rows → ⊥) × (e ≡ NoSuchPlace c r)
 
 -- the text with other bytes from a on
 abbrev pub over : List ℕ → ℕ → List ℕ → List ℕ

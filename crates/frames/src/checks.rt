@@ -1,27 +1,26 @@
 // The check of a text: its length, then its lines from the first.
-ghost use Rattle.std.specs.Prelude.{◌*◌, ◌/◌, ◌<◌, ◌≤◌, length};
+ghost use Rattle.std.specs.Prelude.{◌+◌, ◌*◌, ◌/◌, ◌<◌, ◌≤◌, length};
 ghost use Rattle.code.specs.Shapes.{columns_of, rows_of};
 ghost use Rattle.frames.specs.Lines.{stride as stride_of};
 ghost use Rattle.frames.specs.Checks.{line_refusal, lines_refusal, text_refusal, Told, Passes, Back, There};
 
 use crate::frame::is_frame;
-use crate::lines::{start, stride};
+use crate::lines::stride;
 use code::{Refusal, Shape};
 use symbol::Symbol;
 
-fn check_line<X: Symbol>(text: &[u8], rows: usize, lines: usize, line: usize) -> Result<(), Refusal>
-    requires within { line < lines }
-    requires room { lines * stride_of X.Symbol.width ≤ length text.now }
+fn check_line<X: Symbol>(text: &[u8], rows: usize, line: usize) -> Result<(), Refusal>
+    requires room { line * stride_of X.Symbol.width + stride_of X.Symbol.width ≤ length text.now }
     requires column { line / rows < 255 }
     requires rows { (1 ≤ rows) × (rows ≤ 4096) }
     ensures { Told (line_refusal rows X.Symbol.width text.now line) result }
 {
     let stride = stride::<X>();
-    let at = start(line, stride, lines, text.len());
+    let at = line * stride;
     if !is_frame::<X>(&text[at..at + stride], line / rows + 1, line % rows) {
         return Err(Refusal::BadFrame { line: line + 1 });
     }
-    let first = start(line / rows * rows, stride, lines, text.len());
+    let first = line / rows * rows * stride;
     if text[at] != text[first] {
         return Err(Refusal::MarkDiffers { line: line + 1 });
     }
@@ -36,7 +35,7 @@ fn check_lines<X: Symbol>(text: &[u8], rows: usize, lines: usize) -> Result<(), 
     ensures { Told (lines_refusal rows X.Symbol.width text.now lines) result }
 {
     for line in 0..lines {
-        check_line::<X>(text, rows, lines, line)?;
+        check_line::<X>(text, rows, line)?;
     }
     Ok(())
 }

@@ -6,32 +6,24 @@ ghost use Rattle.frames.specs.Lines.{stride as stride_of, over as put_over, mark
 use crate::lines::stride;
 use symbol::Symbol;
 
-// The bytes of a symbol are bytes, for it can write them down.
-fn real<X: Symbol>(symbol: X)
-    ensures { Octets (X.Symbol.bytes symbol) }
-{
-    let mut bytes = [0; 16];
-    let _ = symbol.write_bytes(&mut bytes[0..X::width()]);
-}
-
 // The digits of a symbol.
 pub(crate) fn put_digits<X: Symbol>(text: &mut [u8], at: usize, symbol: X)
     requires { at + 2 * X.Symbol.width ≤ length text.old }
     ensures text { text.new ≡ put_over text.old at (hex (X.Symbol.bytes symbol)) }
     ensures real { Octets (X.Symbol.bytes symbol) }
 {
-    real(symbol);
     let end = at + 2 * X::width();
+    // The part is as long as the digits.
     let _ = symbol.write_digits(&mut text[at..end]);
 }
 
-// The marks of n lines, from line i on.
-pub(crate) fn mark_lines<X: Symbol>(text: &mut [u8], i: usize, n: usize, mark: u8)
-    requires { (i + n) * stride_of X.Symbol.width ≤ length text.old }
-    ensures { text.new ≡ marked X.Symbol.width text.old i n mark }
+// The marks of so many lines from the first on.
+pub(crate) fn mark_lines<X: Symbol>(text: &mut [u8], first: usize, count: usize, mark: u8)
+    requires { (first + count) * stride_of X.Symbol.width ≤ length text.old }
+    ensures { text.new ≡ marked X.Symbol.width text.old first count mark }
 {
     let stride = stride::<X>();
-    for k in 0..n {
-        text[(i + k) * stride] = mark;
+    for line in first..first + count {
+        text[line * stride] = mark;
     }
 }

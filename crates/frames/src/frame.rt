@@ -1,6 +1,5 @@
 // Whether a line is a frame.
 ghost use Rattle.std.specs.Prelude.{◌≡◌, ◌*◌, ◌<◌, [], ◌∷◌, length};
-ghost use Rattle.std.specs.Str.{bytes_eq};
 ghost use Rattle.symbol.specs.Hex.{hex, is_hex};
 ghost use Rattle.frames.specs.Lines.{stride as stride_of};
 ghost use Rattle.frames.specs.Format.{label as label_of};
@@ -29,16 +28,10 @@ fn label(column: usize, row: usize) -> [u8; 9]
     [b' ', a, b, b' ', c, d, e, f, b' ']
 }
 
-fn same(a: &[u8], b: &[u8]) -> bool
-    ensures { result ≡ bytes_eq a.now b.now }
+fn is_mark(byte: u8) -> bool
+    ensures { result ≡ is_mark_byte byte }
 {
-    a == b
-}
-
-fn is_mark(b: u8) -> bool
-    ensures { result ≡ is_mark_byte b }
-{
-    b == b'P' || b == b'L'
+    matches!(byte, b'P' | b'L')
 }
 
 fn are_digits<X: Symbol>(part: &[u8]) -> bool
@@ -54,15 +47,12 @@ pub(crate) fn is_frame<X: Symbol>(line: &[u8], column: usize, row: usize) -> boo
     requires row { row < 65536 }
     ensures { result ≡ is_frame_of X.Symbol.width column row line.now }
 {
-    let end = line.len() - 1;
-    if !is_mark(line[0]) {
+    let [mark, rest @ .., end] = line else {
+        return false;
+    };
+    let (start, digits) = rest.split_at(9);
+    if !is_mark(*mark) || !are_digits::<X>(digits) || start != label(column, row).as_slice() {
         return false;
     }
-    if !are_digits::<X>(&line[10..end]) {
-        return false;
-    }
-    if !same(&line[1..10], &label(column, row)) {
-        return false;
-    }
-    line[end] == b'\n'
+    *end == b'\n'
 }

@@ -7,14 +7,14 @@ ghost use Rattle.code.specs.Shapes.{columns_of, rows_of};
 ghost use Rattle.store.specs.Calls.{Reads, Writes, Drops, Admits};
 ghost use Rattle.frames.specs.Lines.{stride as stride_of, part, Placed};
 ghost use Rattle.frames.specs.Checks.{text_refusal, is_mark};
-ghost use Rattle.frames.specs.Stores.{counts as counts_of, frames_view, Over, WellFormed, Stays, Remarks, Marks, Puts};
-ghost use Rattle.frames.specs.Small.{meter_small};
+ghost use Rattle.frames.specs.Stores.{frames_view, Over, WellFormed, Stays, Remarks, Marks, Puts};
 
 use crate::checks::check;
 use crate::edits::{mark_lines, put_digits};
 use crate::frames::Frames;
-use crate::lines::{place, stride, whole};
+use crate::lines::stride;
 use code::{Refusal, Shape};
+use std::marker::PhantomData;
 use store::ColumnStore;
 use symbol::Symbol;
 
@@ -25,43 +25,27 @@ impl<'a, X: Symbol> Frames<'a, X> {
         ensures view { Over X.Symbol.zero X.Symbol.width X.Symbol.symbol shape text.old text.entry.ghost_name (frames_view X.Symbol.zero X.Symbol.width X.Symbol.symbol result) }
         ensures formed { text_refusal (columns_of shape) (rows_of shape) X.Symbol.width text.old ≡ None → WellFormed X.Symbol.width result }
     {
-        if check::<X>(shape, text).is_err() {
-            return Frames {
-                columns: 0,
-                rows: 0,
-                text,
-                meter: 0,
-                kind: [],
-            };
-        }
+        let (columns, rows) = match check::<X>(shape, text) {
+            Ok(()) => (shape.columns(), shape.rows()),
+            Err(_) => (0, 0),
+        };
         Frames {
-            columns: shape.columns(),
-            rows: shape.rows(),
+            columns,
+            rows,
             text,
             meter: 0,
-            kind: [],
+            kind: PhantomData,
         }
-    }
-
-    // Whether the text has the length that the columns and rows ask.
-    fn counts(&self) -> bool
-        ensures { result ≡ counts_of X.Symbol.width self.now }
-    {
-        whole(stride::<X>(), self.columns, self.rows, self.text.len())
     }
 
     // Where the line of a place begins.
-    fn line(&self, column: usize, row: usize) -> Option<usize>
+    fn line(&self, column: usize, row: usize) -> Result<usize, Refusal>
         ensures { Placed (stride_of X.Symbol.width) self.now.columns self.now.rows (length self.now.text.now) column row result }
     {
-        place(
-            stride::<X>(),
-            self.columns,
-            self.rows,
-            self.text.len(),
-            column,
-            row,
-        )
+        if !(1..=self.columns).contains(&column) || row >= self.rows {
+            return Err(Refusal::NoSuchPlace { column, row });
+        }
+        Ok(((column - 1) * self.rows + row) * stride::<X>())
     }
 
     // The symbol of the line that begins there.
@@ -79,9 +63,7 @@ impl<'a, X: Symbol> Frames<'a, X> {
         ensures bytes { Marks X.Symbol.width self.old column mark result self.new }
         ensures stays { is_mark mark ≡ true → Stays X.Symbol.width self.old self.new }
     {
-        if self.line(column, 0).is_none() {
-            return Err(Refusal::NoSuchPlace { column, row: 0 });
-        }
+        self.line(column, 0)?;
         let rows = self.rows;
         mark_lines::<X>(self.text, (column - 1) * rows, rows, mark);
         Ok(())
@@ -91,14 +73,14 @@ impl<'a, X: Symbol> Frames<'a, X> {
 impl<'a, X: Symbol> ColumnStore<X> for Frames<'a, X> {
     ghost view = { frames_view X.Symbol.zero X.Symbol.width X.Symbol.symbol };
 
-    ghost counted = { λ t. meter_small t.meter };
+    ghost counted = { λ t. t.counted };
 
     fn columns(&self) -> usize {
-        if self.counts() { self.columns } else { 0 }
+        self.columns
     }
 
     fn rows(&self) -> usize {
-        if self.counts() { self.rows } else { 0 }
+        self.rows
     }
 
     fn meter(&self) -> u64 {
@@ -106,10 +88,7 @@ impl<'a, X: Symbol> ColumnStore<X> for Frames<'a, X> {
     }
 
     fn is_lost(&self, column: usize) -> bool {
-        match self.line(column, 0) {
-            Some(at) => self.text[at] != b'P',
-            None => true,
-        }
+        !self.line(column, 0).is_ok_and(|at| self.text[at] == b'P')
     }
 
     fn read(&mut self, column: usize, row: usize) -> Result<X, Refusal>
@@ -117,9 +96,7 @@ impl<'a, X: Symbol> ColumnStore<X> for Frames<'a, X> {
         ensures bytes { self.new.text.now ≡ self.old.text.now }
         ensures stays { Stays X.Symbol.width self.old self.new }
     {
-        let Some(at) = self.line(column, row) else {
-            return Err(Refusal::NoSuchPlace { column, row });
-        };
+        let at = self.line(column, row)?;
         if self.is_lost(column) {
             return Err(Refusal::ColumnLost { column });
         }
@@ -133,9 +110,7 @@ impl<'a, X: Symbol> ColumnStore<X> for Frames<'a, X> {
         ensures bytes { Puts X.Symbol.width self.old column row (hex (X.Symbol.bytes symbol)) result self.new }
         ensures stays { Stays X.Symbol.width self.old self.new }
     {
-        let Some(at) = self.line(column, row) else {
-            return Err(Refusal::NoSuchPlace { column, row });
-        };
+        let at = self.line(column, row)?;
         put_digits(self.text, at + 10, symbol);
         Ok(())
     }

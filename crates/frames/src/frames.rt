@@ -1,4 +1,8 @@
-// A column store over a lent text, one line for each symbol. Its dimensions count while the text has their length.
+// A column store over a lent text, one line for each symbol.
+ghost use Rattle.std.specs.Prelude.{◌*◌, ◌^◌, ◌<◌, ◌≤◌, length};
+ghost use Rattle.frames.specs.Lines.{stride as stride_of};
+
+use std::marker::PhantomData;
 use symbol::Symbol;
 
 #[derive(Drop)]
@@ -7,6 +11,8 @@ pub struct Frames<'a, X: Symbol> {
     pub(crate) rows: usize,
     pub(crate) text: &'a mut [u8],
     pub(crate) meter: u64,
-    // names the kind
-    pub(crate) kind: [X; 0],
+    pub(crate) kind: PhantomData<X>,
+    ghost some: { 1 ≤ columns → 1 ≤ rows },
+    ghost room: { columns * rows * stride_of X.Symbol.width ≤ length text.now },
+    ghost counted: { meter < 2 ^ 64 },
 }

@@ -1,5 +1,5 @@
 -- What the readers and writers of a kind of symbol answer, and what they leave.
-use Rattle.std.specs.Prelude.{◌≡◌, ℕ, ◌*◌, Bool, true, false, cond, List, length, Some, None, Option, ◌==◌, ◌≢◌}
+use Rattle.std.specs.Prelude.{◌≡◌, ℕ, ◌*◌, Bool, true, false, cond, List, length, Some, None, Option, Ok, Err, Result, ◌==◌, ◌≢◌}
 use Rattle.symbol.specs.Hex.{is_hex, unhex, Octets}
 
 -- whether two symbols are the same
@@ -16,11 +16,11 @@ abbrev pub from_digits : {X : Type 0} → ℕ → (List ℕ → X) → List ℕ 
 from_digits w symbol part = cond (is_hex (2 * w) part) (Some (symbol (unhex part))) None
 
 -- the bytes were written over the whole part; or the part has another length and is as it was
-abbrev pub Wrote : List ℕ → List ℕ → List ℕ → Bool → Type 0
-Wrote bytes before after true = (length before ≡ length bytes) × (after ≡ bytes) × Octets bytes
-Wrote bytes before after false = (length before ≢ length bytes) × (after ≡ before)
+abbrev pub Wrote : {E : Type 0} → List ℕ → List ℕ → List ℕ → Result Unit E → Type 0
+Wrote bytes before after (Ok done) = (length before ≡ length bytes) × (after ≡ bytes) × Octets bytes
+Wrote bytes before after (Err e) = (length before ≢ length bytes) × (after ≡ before)
 
 -- the part was digits, and the bytes are what they stand for; or it was not as many digits as the bytes ask
-abbrev pub Unhexed : List ℕ → List ℕ → List ℕ → Bool → Type 0
-Unhexed part before after true = (is_hex (2 * length before) part ≡ true) × (after ≡ unhex part)
-Unhexed part before after false = is_hex (2 * length before) part ≡ false
+abbrev pub Unhexed : List ℕ → List ℕ → List ℕ → Option Unit → Type 0
+Unhexed part before after (Some done) = (is_hex (2 * length before) part ≡ true) × (after ≡ unhex part)
+Unhexed part before after None = is_hex (2 * length before) part ≡ false

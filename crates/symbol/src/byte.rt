@@ -7,8 +7,9 @@ ghost use Rattle.std.proofs.lemmas.Nat.{xor_comm};
 ghost use Rattle.symbol.specs.Laws.{elements};
 
 use crate::kind::Symbol;
+use crate::wrong_length::WrongLength;
 
-#[derive(Clone, Copy, PartialEq, Debug)]
+#[derive(Clone, Copy, PartialEq, Eq, Debug)]
 pub struct Byte {
     pub value: u8,
 }
@@ -23,6 +24,8 @@ impl Symbol for Byte {
     ghost bytes = { byte_bytes };
 
     ghost symbol = { byte_of };
+
+    ghost exact = { Prim.search rules };
 
     ghost group = { record {
       monoid = record {
@@ -51,26 +54,22 @@ impl Symbol for Byte {
         }
     }
 
-    fn same(self, other: Byte) -> bool {
-        self.value == other.value
-    }
-
     fn width() -> usize {
         1
     }
 
     fn read_bytes(part: &[u8]) -> Option<Byte> {
-        if part.len() != 1 {
+        let &[value] = part else {
             return None;
-        }
-        Some(Byte { value: part[0] })
+        };
+        Some(Byte { value })
     }
 
-    fn write_bytes(self, part: &mut [u8]) -> bool {
+    fn write_bytes(self, part: &mut [u8]) -> Result<(), WrongLength> {
         if part.len() != 1 {
-            return false;
+            return Err(WrongLength);
         }
-        part[0] = self.value;
-        true
+        part.copy_from_slice(&[self.value]);
+        Ok(())
     }
 }

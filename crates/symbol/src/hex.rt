@@ -3,6 +3,8 @@ ghost use Rattle.std.specs.Prelude.{◌≡◌, ℕ, ◌+◌, ◌*◌, ◌<◌, t
 ghost use Rattle.symbol.specs.Hex.{digit_of, is_digit, worth, is_hex, hex, unhex};
 ghost use Rattle.symbol.specs.Kinds.{Unhexed, Wrote};
 
+use crate::wrong_length::WrongLength;
+
 fn digit(v: u8) -> u8
     requires { v < 16 }
     ensures { result ≡ digit_of v }
@@ -30,32 +32,29 @@ fn pair(high: u8, low: u8) -> Option<u8>
     Some(16 * high + low)
 }
 
-// Fills `bytes` from twice as many digits. False exactly if the part is anything else.
-pub(crate) fn read_hex(part: &[u8], bytes: &mut [u8]) -> bool
+// Fills `bytes` from twice as many digits. None exactly if the part is anything else.
+pub(crate) fn read_hex(part: &[u8], bytes: &mut [u8]) -> Option<()>
     ensures { Unhexed part.now bytes.old bytes.new result }
 {
-    if part.len() / 2 != bytes.len() || part.len() % 2 != 0 {
-        return false;
+    if part.len() != 2 * bytes.len() {
+        return None;
     }
-    for i in 0..bytes.len() {
-        let Some(byte) = pair(part[2 * i], part[2 * i + 1]) else {
-            return false;
-        };
-        bytes[i] = byte;
+    for (i, byte) in bytes.iter_mut().enumerate() {
+        *byte = pair(part[2 * i], part[2 * i + 1])?;
     }
-    true
+    Some(())
 }
 
-// The digits of `bytes` over the whole part. False, and nothing is changed, exactly if it is not twice as long.
-pub(crate) fn write_hex(bytes: &[u8], part: &mut [u8]) -> bool
+// The digits of `bytes` over the whole part. An error, and nothing is changed, exactly if it is not twice as long.
+pub(crate) fn write_hex(bytes: &[u8], part: &mut [u8]) -> Result<(), WrongLength>
     ensures { Wrote (hex bytes.now) part.old part.new result }
 {
-    if part.len() / 2 != bytes.len() || part.len() % 2 != 0 {
-        return false;
+    if part.len() != 2 * bytes.len() {
+        return Err(WrongLength);
     }
-    for i in 0..bytes.len() {
-        part[2 * i] = digit(bytes[i] / 16);
-        part[2 * i + 1] = digit(bytes[i] % 16);
+    for (i, byte) in bytes.iter().enumerate() {
+        part[2 * i] = digit(byte / 16);
+        part[2 * i + 1] = digit(byte % 16);
     }
-    true
+    Ok(())
 }

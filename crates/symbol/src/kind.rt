@@ -1,12 +1,13 @@
 // A kind of symbol. The code above the kinds is written once, for every one of them.
-ghost use Rattle.std.specs.Prelude.{◌≡◌, ℕ, ◌*◌, ◌≤◌, List, length};
+ghost use Rattle.std.specs.Prelude.{IfOk, ◌≡◌, ℕ, ◌*◌, ◌≤◌, List, length};
 ghost use Rattle.ring.specs.Sums.{BooleanGroup};
 ghost use Rattle.symbol.specs.Hex.{hex, Octets};
 ghost use Rattle.symbol.specs.Kinds.{Tells, from_bytes, from_digits, Wrote};
 
 use crate::hex::{read_hex, write_hex};
+use crate::wrong_length::WrongLength;
 
-pub trait Symbol: Copy {
+pub trait Symbol: Copy + PartialEq {
     ghost zero: { Self };
 
     ghost plus: { Self → Self → Self };
@@ -25,7 +26,10 @@ pub trait Symbol: Copy {
         ensures { result ≡ plus self other };
 
     fn same(self, other: Self) -> bool
-        ensures { Tells self other result };
+        ensures { Tells self other result }
+    {
+        self == other
+    }
 
     fn width() -> usize
         ensures { result ≡ width };
@@ -34,8 +38,8 @@ pub trait Symbol: Copy {
     fn read_bytes(part: &[u8]) -> Option<Self>
         ensures { result ≡ from_bytes width symbol part.now };
 
-    // False, and nothing is changed, exactly if the part is not `width` bytes long.
-    fn write_bytes(self, part: &mut [u8]) -> bool
+    // An error, and nothing is changed, exactly if the part is not `width` bytes long.
+    fn write_bytes(self, part: &mut [u8]) -> Result<(), WrongLength>
         ensures { Wrote (bytes self) part.old part.new result };
 
     // None exactly if the part is not 2 * `width` uppercase hexadecimal digits.
@@ -43,24 +47,23 @@ pub trait Symbol: Copy {
         ensures { result ≡ from_digits width symbol part.now }
     {
         let width = Self::width();
-        let mut bytes = [0u8; 16];
-        if !read_hex(part, &mut bytes[0..width]) {
-            return None;
-        }
-        Self::read_bytes(&bytes[0..width])
+        let mut bytes = [0; 16];
+        read_hex(part, &mut bytes[..width])?;
+        Self::read_bytes(&bytes[..width])
     }
 
-    // False, and nothing is changed, exactly if the part is not 2 * `width` bytes long.
-    fn write_digits(self, part: &mut [u8]) -> bool
-        ensures { Wrote (hex (bytes self)) part.old part.new result }
+    // An error, and nothing is changed, exactly if the part is not 2 * `width` bytes long.
+    fn write_digits(self, part: &mut [u8]) -> Result<(), WrongLength>
+        ensures wrote { Wrote (hex (bytes self)) part.old part.new result }
+        ensures real { IfOk result (λ _. Octets (bytes self)) }
     {
         let width = Self::width();
-        let mut bytes = [0u8; 16];
-        if !self.write_bytes(&mut bytes[0..width]) {
-            return false;
-        }
-        write_hex(&bytes[0..width], part)
+        let mut bytes = [0; 16];
+        self.write_bytes(&mut bytes[..width])?;
+        write_hex(&bytes[..width], part)
     }
+
+    ghost exact: { (x y : Self) → Tells x y (Self.eq x y) };
 
     ghost group: { BooleanGroup zero plus };
 

@@ -5,7 +5,9 @@ mod byte;
 mod hex;
 mod kind;
 mod stand;
+mod wrong_length;
 
 pub use byte::Byte;
 pub use kind::Symbol;
 pub use stand::Stand;
+pub use wrong_length::WrongLength;

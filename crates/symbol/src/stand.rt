@@ -7,8 +7,9 @@ ghost use Rattle.std.proofs.Common.{arith, rules};
 ghost use Rattle.symbol.specs.Laws.{elements, both};
 
 use crate::kind::Symbol;
+use crate::wrong_length::WrongLength;
 
-#[derive(Clone, Copy, PartialEq, Debug)]
+#[derive(Clone, Copy, PartialEq, Eq, Debug)]
 pub struct Stand {
     pub stock: u16,
     pub cash: u32,
@@ -24,6 +25,8 @@ impl Symbol for Stand {
     ghost bytes = { stand_bytes };
 
     ghost symbol = { stand_of };
+
+    ghost exact = { Prim.search rules };
 
     ghost group = { record {
       monoid = record {
@@ -66,37 +69,27 @@ impl Symbol for Stand {
         }
     }
 
-    fn same(self, other: Stand) -> bool {
-        self.stock == other.stock && self.cash == other.cash
-    }
-
     fn width() -> usize {
         6
     }
 
     fn read_bytes(part: &[u8]) -> Option<Stand> {
-        if part.len() != 6 {
+        let &[a, b, c, d, e, f] = part else {
             return None;
-        }
+        };
         Some(Stand {
-            stock: u16::from(part[0]) * 256 + u16::from(part[1]),
-            cash: u32::from(part[2]) * 16777216
-                + u32::from(part[3]) * 65536
-                + u32::from(part[4]) * 256
-                + u32::from(part[5]),
+            stock: u16::from_be_bytes([a, b]),
+            cash: u32::from_be_bytes([c, d, e, f]),
         })
     }
 
-    fn write_bytes(self, part: &mut [u8]) -> bool {
+    fn write_bytes(self, part: &mut [u8]) -> Result<(), WrongLength> {
         if part.len() != 6 {
-            return false;
+            return Err(WrongLength);
         }
-        part[0] = (self.stock / 256) as u8;
-        part[1] = (self.stock % 256) as u8;
-        part[2] = (self.cash / 16777216) as u8;
-        part[3] = (self.cash / 65536 % 256) as u8;
-        part[4] = (self.cash / 256 % 256) as u8;
-        part[5] = (self.cash % 256) as u8;
-        true
+        let [a, b] = self.stock.to_be_bytes();
+        let [c, d, e, f] = self.cash.to_be_bytes();
+        part.copy_from_slice(&[a, b, c, d, e, f]);
+        Ok(())
     }
 }

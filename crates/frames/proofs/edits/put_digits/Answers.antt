@@ -8,5 +8,5 @@ pub returns : goal.returns
 returns g c =
     let x = c.args.symbol in
     let long : length (hex (g.X.Symbol.bytes x)) ≡ 2 * g.X.Symbol.width = length_hex (g.X.Symbol.bytes x) ∙ ap (λ n. 2 * n) (g.met.X.Symbol.wide x) in
-    let w = wrote (hex (g.X.Symbol.bytes x)) _ c.write_digits.new.part c.write_digits.result c.write_digits.ensures (search rules) in
-    record { text = mid_over _ _ c.args.text.now c.write_digits.new.part _ w (omega (arith, ap length w)); real = c.real.ensures }
+    let w = wrote (hex (g.X.Symbol.bytes x)) _ c.write_digits.new.part c.write_digits.result c.write_digits.ensures.wrote c.write_digits.ensures.real (search rules) in
+    record { text = mid_over _ _ c.args.text.now c.write_digits.new.part _ w.0 (omega (arith, ap length w.0)); real = w.1 }

@@ -1,15 +1,19 @@
-use Rattle.frames.proofs.Views.{placed_some, lines_fit, remarked_all}
+use Rattle.std.proofs.Common.{refl}
+use Rattle.frames.specs.Lines.{stride}
+use Rattle.frames.proofs.Views.{lines_fit, remarked, marked_formed}
 use Rattle.frames.proofs.frames.Frames.mark.Goals as goal
 
 pub mark_lines-requires : goal.mark_lines-requires
 mark_lines-requires g c =
-    let p = placed_some _ _ _ _ c.args.column 0 c.line.result c.line.ensures c.if-is_none.ensures in
-    lines_fit _ c.args.column c.args.self.now.columns c.args.self.now.rows _ p.1 p.2 p.0
+    let t = c.args.self.now in
+    let p = c.in_ok-line.ensures in
+    lines_fit (stride g.X.Symbol.width) c.args.column t.columns t.rows _ p.0 p.1 t.room
 
 pub returns : goal.returns
 returns g c =
     let K = g.X.Symbol in
-    let M = g.met.X.Symbol in
-    let p = placed_some _ _ _ _ c.args.column 0 c.line.result c.line.ensures c.if-is_none.ensures in
-    let a = remarked_all K.zero K.width K.bytes K.symbol M.wide M.back M.there c.args.self.now c.mark_lines.new.text c.args.column c.args.mark p.0 p.1 p.2 p.3 c.mark_lines.ensures in
-    record { answer = a.0; bytes = c.mark_lines.ensures; stays = a.1 }
+    let t = c.args.self.now in
+    let p = c.in_ok-line.ensures in
+    let n = remarked K t.columns t.rows t.meter t.text.ghost_name t.text.now c.mark_lines.new.text c.args.column c.args.mark p.0 p.1 p.2 t.room c.mark_lines.ensures in
+    let f = marked_formed K t.columns t.rows t.meter t.text.ghost_name t.text.now c.mark_lines.new.text c.args.column c.args.mark p.0 p.1 p.2 t.room c.mark_lines.ensures in
+    record { answer = ((p.0, p.1), n); bytes = c.mark_lines.ensures; stays = λ is. record { columns = refl; rows = refl; formed = f is } }
