@@ -1,6 +1,6 @@
 -- A plan's numbers are its shape's and its column's.
-use Rattle.std.proofs.Common.{◌≡◌, ℕ, suc, ◌+◌, ◌-◌, ◌*◌, ◌/◌, ◌%◌, ◌^◌, ◌<◌, ◌≤◌, true, cond, eqb, leb, List, length, get_or, Some, sym, ap, ◌∙◌, ap₂, mul-le-mul_right, arith}
-use Rattle.std.proofs.lemmas.Bool.{le-leb, lt-leb, lt-ltb, le-ltb, eq-eqb}
+use Rattle.std.proofs.Common.{◌≡◌, ℕ, suc, ◌+◌, ◌-◌, ◌*◌, ◌/◌, ◌%◌, ◌^◌, ◌<◌, ◌≤◌, true, cond, eqb, List, length, get_or, Some, sym, ap, ◌∙◌, ap₂, mul-le-mul_right, arith}
+use Rattle.std.proofs.lemmas.Bool.{le-leb, lt-ltb}
 use Rattle.ring.specs.Cyclic.{shifted}
 use Rattle.code.specs.Shapes.{helpers_of, rows_of, positions_of, shift_of}
 use Rattle.code.specs.Parities.{symbol_of}
@@ -9,13 +9,12 @@ use Rattle.code.proofs.Bounds as C
 use Rattle.sums.specs.Sums.{symbol_in_cells}
 use Rattle.repair.specs.declared.plan.Plan.{Plan}
 use Rattle.repair.specs.Halves.{depth, near, span}
-use Rattle.repair.specs.Lists.{added, helper, slot, area}
+use Rattle.repair.specs.Lists.{helper, slot, area}
 use Rattle.repair.specs.Rows.{block, chosen, position, addend}
 use Rattle.repair.specs.Steps.{step, gap}
 use Rattle.repair.proofs.Frame as F
 use Rattle.repair.proofs.Listed as L
 use Rattle.repair.proofs.Slots as W
-use Rattle.repair.proofs.Solves as S
 use Rattle.repair.proofs.Bounds as B
 
 module _ (u : Plan) where
@@ -44,29 +43,12 @@ module _ (u : Plan) where
   pub shift_is : (row i : ℕ) → 1 ≤ i → i ≤ u.shape.k → gap u.shape u.lost row * step u.shape u.lost i ≡ shift_of u.shape (chosen u.shape u.lost row) i
   shift_is row i lo hi = ap (λ x. x * step u.shape u.lost i) (F.gap_is u.shape u.lost one last row) ∙ sym (F.shift_is u.shape u.lost one last row i lo hi)
 
-  -- the lost column moves by less than a round
-  pub moved_low : (n : ℕ) → n < u.shape.q → n * u.span ≤ 4096
-  moved_low n h = rw u.span_is (omega (arith, mul-le-mul_right {m = n} {n = u.shape.q} (span u.shape u.lost) (omega arith), F.round_is u.shape u.lost one last, B.round_low u.shape u.lost one last))
-
-  pub gap_low : (row : ℕ) → gap u.shape u.lost row < u.shape.q
-  gap_low row = rw (F.gap_is u.shape u.lost one last row) (F.gap_low u.shape u.lost one last row)
-
-  pub position_is : (row n : ℕ) → n ≡ gap u.shape u.lost row → (row + n * u.span) % u.positions ≡ position u.shape u.lost row
-  position_is row n e = ap₂ (λ a m. (row + a) % m) (ap₂ ◌*◌ e (u.span_is ∙ sym (F.step_lost u.shape u.lost one last)) ∙ shift_is row u.lost one last) u.positions_are
-
-  pub positions_pos : 0 < u.positions
-  positions_pos = rw u.positions_are (S.positions_pos u.shape)
-
   pub positions_low : u.positions ≤ 8192
   positions_low = rw u.positions_are (C.positions_low u.shape)
 
   -- a data column's step times any gap is less than a turn of the ring
   pub steps_low : (i n : ℕ) → i < u.shape.k → n < u.shape.q → n * get_or u.steps i 0 ≤ u.positions
   steps_low i n h k = rw (u.steps_are i h, u.positions_are, F.positions_are u.shape u.lost one last) (F.step_low u.shape u.lost one last n (i + 1) k)
-
-  -- where a data column is taken, by steps
-  pub from_is : (i n x : ℕ) → i < u.shape.k → (x + (u.positions - n * get_or u.steps i 0)) % u.positions ≡ shifted (positions_of u.shape) (n * step u.shape u.lost (i + 1)) x
-  from_is i n x h = rw (u.steps_are i h, u.positions_are)
 
   -- an addend, by steps
   pub addend_is : {X : Type 0} (none : X) (plus : X → X → X) (at : ℕ → ℕ → X) (row i n x : ℕ) → i < u.shape.k → n ≡ gap u.shape u.lost row → x ≡ position u.shape u.lost row →
@@ -77,9 +59,6 @@ module _ (u : Plan) where
 
   pub serving_helps : (row j : ℕ) → j ≡ chosen u.shape u.lost row → helper u.shape u.lost (u.shape.k + j) ≡ true
   serving_helps row j e = rw e (L.chosen_helps u.shape u.lost one last row)
-
-  pub first_parity_slot : (c : ℕ) → c ≡ u.shape.k + 1 → u.shape.k - 1 ≡ slot u.shape u.lost c
-  first_parity_slot c e = rw (le-ltb c u.lost (omega (arith, last)), lt-leb c u.shape.k (omega arith), eq-eqb c (u.shape.k + 1) e)
 
   -- a helper's part lies in the work area
   pub part_fits : (c : ℕ) → helper u.shape u.lost c ≡ true → slot u.shape u.lost c * rows_of u.shape + rows_of u.shape ≤ helpers_of u.shape * rows_of u.shape
@@ -109,6 +88,3 @@ module _ (u : Plan) where
     window_low =
         rw (step_at, u.round_is)
         (omega (arith, mul-le-mul_right {m = u.shape.q - 1} {n = u.shape.q} (u.shape.q ^ (near u.shape u.lost c - 1)) (omega arith), L.narrow u.shape u.lost one last c pos nearer, F.round_is u.shape u.lost one last, mul-le-mul_right {m = 1} {n = u.shape.q} (span u.shape u.lost) (omega arith)))
-
-    pub added_is : (r : ℕ) → leb (u.round - (u.shape.q - 1) * get_or u.steps (c - 1) 0) (r % u.round) ≡ added u.shape u.lost c r
-    added_is r = rw (step_at, u.round_is, le-leb c u.shape.k here, lt-ltb (near u.shape u.lost c) (depth u.shape u.lost) nearer)

@@ -10,11 +10,12 @@ impl Plan {
     fn helping(&self, parity: usize) -> bool
         ensures { result ≡ is_helping self.now.shape self.now.lost parity }
     {
-        if self.first_half {
-            parity == 1 || (2 <= parity && parity <= self.shape.q)
+        let others = if self.first_half {
+            2..=self.shape.q
         } else {
-            parity == 1 || (self.shape.q + 1 <= parity && parity <= self.shape.parities())
-        }
+            self.shape.q + 1..=self.shape.parities()
+        };
+        parity == 1 || others.contains(&parity)
     }
 
     // Whether a column helps.
@@ -56,9 +57,8 @@ impl Plan {
     pub fn listed(&self, column: usize, row: usize) -> bool
         ensures { result ≡ is_listed self.now.shape self.now.lost column row }
     {
-        if row >= self.rows || !self.helper(column) {
-            return false;
-        }
-        row % self.round < self.span || self.added(column, row)
+        row < self.rows
+            && self.helper(column)
+            && (row % self.round < self.span || self.added(column, row))
     }
 }

@@ -44,12 +44,12 @@ impl Plan {
     }
 
     // The position of that parity whose sum takes in the row.
-    fn position(&self, row: usize, gap: usize) -> usize
-        requires row { row < rows_of self.now.shape }
-        requires gap { gap ≡ gap_of self.now.shape self.now.lost row }
+    fn position(&self, row: usize) -> usize
+        requires { row < rows_of self.now.shape }
         ensures is { result ≡ position_of self.now.shape self.now.lost row }
         ensures low { result < positions_of self.now.shape }
     {
+        let gap = self.gap(row);
         (row + gap * self.span) % self.positions
     }
 
@@ -76,8 +76,9 @@ impl Plan {
             return None;
         }
         let gap = self.gap(row);
-        let position = self.position(row, gap);
+        let position = self.position(row);
         let mut sum = X::zero();
+        // By numbers: a column's number picks its part of the work area, its step, and whether it is the lost one.
         for i in 0..self.shape.k {
             sum = sum.add(self.term(work, i, gap, position));
         }

@@ -1,5 +1,5 @@
 use Rattle.std.proofs.Common.{arith}
-use Rattle.repair.proofs.Planned.{round_pos, round_low, window_low, added_is}
+use Rattle.repair.proofs.Planned.{round_pos, round_low, window_low}
 use Rattle.repair.proofs.plan.Plan.added.Goals as goal
 
 pub nonzero_rem-result : goal.nonzero_rem-result
@@ -10,6 +10,3 @@ overflow_mul-result c = omega (arith, round_low c.args.self.now, window_low c.ar
 
 pub overflow_sub-result-3 : goal.overflow_sub-result-3
 overflow_sub-result-3 c = window_low c.args.self.now c.args.column c.requires c.if-column-self.false c.near.result c.near.ensures.is c.near.ensures.low c.if-near-self.false
-
-pub returns : goal.returns
-returns c = added_is c.args.self.now c.args.column c.requires c.if-column-self.false c.near.result c.near.ensures.is c.near.ensures.low c.if-near-self.false c.args.row
