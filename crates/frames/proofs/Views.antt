@@ -36,7 +36,7 @@ module _ {X : Type 0} (K : Ghosts X) (m n meter lender : ℕ) where
     fits = place_fits c r m n (stride K.width) (length text) one last within room
 
     long : length (hex (K.bytes y)) ≡ 2 * K.width
-    long = digits_long K.zero K.width K.bytes K.symbol wide back there y
+    long = digits_long K wide back there y
 
     pub written : Written (seen text) c r y (seen values)
     written =
@@ -50,14 +50,14 @@ module _ {X : Type 0} (K : Ghosts X) (m n meter lender : ℕ) where
           lost = λ d column. ap (λ (b : ℕ). not (eqb b 80)) (mark_over K.width text i ds fits long (place_of n d 0));
           meter = refl;
           lender = refl;
-          here = ap symbol (digits_here K.width text i ds fits long) ∙ digits_there K.zero K.width K.bytes K.symbol wide back there y real;
+          here = ap symbol (digits_here K.width text i ds fits long) ∙ digits_there K wide back there y real;
           others = λ d s inside apart. ap symbol (digits_other K.width text i ds fits long (place_of n d s) (place_apart d s c r n inside.0 one inside.2 within apart));
         })
 
     pub written_formed : text_refusal m n K.width text ≡ None → text_refusal m n K.width values ≡ None
     written_formed h =
         let ds = hex (K.bytes y) in
-        let digits = digits_is K.zero K.width K.bytes K.symbol wide back there y real in
+        let digits = digits_is K wide back there y real in
         ap (text_refusal m n K.width) put ∙ unrefused m n K.width _ (written_sound m n K.width text (sound m n K.width text h) (place_of n c r) ds fits digits)
 
   -- the lines of a column are marked
