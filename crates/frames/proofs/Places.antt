@@ -1,6 +1,5 @@
 -- Lines, and the columns and rows that they are of.
-use Rattle.std.proofs.Common.{◌≡◌, ℕ, ◌+◌, ◌-◌, ◌*◌, ◌/◌, ◌%◌, ◌<◌, ◌≤◌, true, false, ap, ◌∙◌, mul-le-mul_right, mul_assoc, mul_comm, div-lt_iff_lt-mul, div-add-mod', arith}
-use Rattle.std.proofs.lemmas.Bool.Decides.{nat_tests}
+use Rattle.std.proofs.Common.{◌≡◌, ℕ, ◌+◌, ◌-◌, ◌*◌, ◌/◌, ◌%◌, ◌<◌, ◌≤◌, ap, ◌∙◌, mul-le-mul_right, mul_assoc, mul_comm, div-lt_iff_lt-mul, div-add-mod', arith}
 use Rattle.code.specs.declared.shape.Shape.{Shape}
 use Rattle.code.specs.Shapes.{columns_of, rows_of}
 use Rattle.code.specs.Places.{place_of}

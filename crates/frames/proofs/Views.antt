@@ -9,7 +9,7 @@ use Rattle.code.specs.Places.{place_of}
 use Rattle.store.specs.View.{View, Written}
 use Rattle.store.specs.Calls.{Drops, Admits}
 use Rattle.store.proofs.Places.{place_apart}
-use Rattle.frames.specs.Lines.{stride, mark_at, over, marked}
+use Rattle.frames.specs.Lines.{stride, over, marked}
 use Rattle.frames.specs.Format.{marks_in, symbols_in}
 use Rattle.frames.specs.Checks.{is_mark, text_refusal}
 use Rattle.frames.specs.Stores.{Remarked, Remarks}

@@ -1,4 +1,4 @@
-use Rattle.std.proofs.Common.{ℕ, ◌+◌, refl, ap, ◌∙◌}
+use Rattle.std.proofs.Common.{◌+◌, refl, ap, ◌∙◌}
 use Rattle.symbol.specs.Hex.{hex}
 use Rattle.frames.specs.Lines.{over}
 use Rattle.frames.proofs.Views.{written, written_formed}

@@ -1,5 +1,4 @@
-use Rattle.std.proofs.Common.{◌+◌, ◌*◌, ◌≤◌, length, rules}
-use Rattle.code.specs.Places.{place_of}
+use Rattle.std.proofs.Common.{length, rules}
 use Rattle.frames.specs.Lines.{stride}
 use Rattle.frames.proofs.Places.{place_fits}
 use Rattle.frames.proofs.frames.Frames.line.Goals as goal
