@@ -1,5 +1,5 @@
 -- What new frames are.
-use Rattle.std.proofs.Common.{◌≡◌, ℕ, ◌*◌, ◌≤◌, Bool, true, false, cond, List, length, is_some, Some, None, Option, refl, ap, ◌∙◌, ap₂, arith}
+use Rattle.std.proofs.Common.{◌≡◌, ℕ, ◌*◌, ◌≤◌, cond, List, length, Some, None, Option, sym, refl, ap, ◌∙◌, arith}
 use Rattle.code.specs.declared.refusal.Refusal.{Refusal}
 use Rattle.code.specs.declared.shape.Shape.{Shape}
 use Rattle.code.specs.Shapes.{columns_of, rows_of}
@@ -34,11 +34,11 @@ module _ (w : ℕ) (s : Shape) (text : List ℕ) where
       go None h = full (sized.columns ∙ rw h refl) (sized.rows ∙ rw h refl) h
       go (Some e) h = empty (sized.columns ∙ rw h refl) (sized.rows ∙ rw h refl) (rw h (never e))
 
-  pub some_of : (m n : ℕ) → Sized w s text m n → 1 ≤ m → 1 ≤ n
-  some_of m n sized h = cases m n (1 ≤ n) sized (λ p q _. absurd (omega arith)) (λ p q _. omega (arith, rows_some s))
+  pub some_of : (m n : ℕ) → Sized w s text m n → (1 ≤ m → 1 ≤ n) × (1 ≤ n → 1 ≤ m)
+  some_of m n sized = cases m n ((1 ≤ m → 1 ≤ n) × (1 ≤ n → 1 ≤ m)) sized (λ p q _. (λ h. absurd (omega arith), λ h. absurd (omega arith))) (λ p q _. (λ h. omega (arith, rows_some s), λ h. omega (arith, s.data_columns)))
 
-  pub room_of : (m n : ℕ) → Sized w s text m n → m * n * stride w ≤ length text
-  room_of m n sized = cases m n (m * n * stride w ≤ length text) sized (λ p q _. rw (p, q) (omega arith)) (λ p q h. rw (p, q) (let l = (sound (columns_of s) (rows_of s) w text h).long in omega arith))
+  pub whole_of : (m n : ℕ) → Sized w s text m n → 1 ≤ m → m * n * stride w ≡ length text
+  whole_of m n sized one = cases m n (m * n * stride w ≡ length text) sized (λ p q _. absurd (omega arith)) (λ p q h. rw (p, q) (sym (sound (columns_of s) (rows_of s) w text h).long))
 
   pub formed_of : (m n : ℕ) → Sized w s text m n → refusal ≡ None → text_refusal m n w text ≡ None
   formed_of m n sized h = cases m n (text_refusal m n w text ≡ None) sized (λ _ _ not. absurd (not h)) (λ p q h. rw (p, q) h)

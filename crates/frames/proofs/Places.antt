@@ -1,6 +1,5 @@
 -- Lines, and the columns and rows that they are of.
-use Rattle.std.proofs.Common.{◌≡◌, ℕ, ◌+◌, ◌-◌, ◌*◌, ◌/◌, ◌%◌, ◌<◌, ◌≤◌, true, false, ap, ◌∙◌, mul-le-mul_right, mul_assoc, mul_comm, div-lt_iff_lt-mul, div-add-mod', arith}
-use Rattle.std.proofs.lemmas.Bool.Decides.{nat_tests}
+use Rattle.std.proofs.Common.{◌≡◌, ℕ, ◌+◌, ◌-◌, ◌*◌, ◌/◌, ◌%◌, ◌<◌, ◌≤◌, ap, ◌∙◌, mul-le-mul_right, mul_assoc, mul_comm, div-lt_iff_lt-mul, div-add-mod', arith}
 use Rattle.code.specs.declared.shape.Shape.{Shape}
 use Rattle.code.specs.Shapes.{columns_of, rows_of}
 use Rattle.code.specs.Places.{place_of}
@@ -33,8 +32,9 @@ pub place_row : (c r n : ℕ) → r < n → place_of n c r % n ≡ r
 place_row c r n within = mod-mul-add (c - 1) n r within
 
 -- the line of a place lies in the text
-pub place_fits : (c r m n s size : ℕ) → 1 ≤ c → c ≤ m → r < n → m * n * s ≤ size → place_of n c r * s + s ≤ size
-place_fits c r m n s size one last within room =
+pub place_fits : (c r m n s size : ℕ) → 1 ≤ c → c ≤ m → r < n → (1 ≤ m → m * n * s ≡ size) → place_of n c r * s + s ≤ size
+place_fits c r m n s size one last within whole =
+    let e : m * n * s ≡ size = whole (omega arith) in
     let low : place_of n c r + 1 ≤ m * n = omega (arith, place_low c r m n one last within) in
     let h : (place_of n c r + 1) * s ≤ m * n * s = mul-le-mul_right s low in
     omega arith

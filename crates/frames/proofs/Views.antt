@@ -9,7 +9,7 @@ use Rattle.code.specs.Places.{place_of}
 use Rattle.store.specs.View.{View, Written}
 use Rattle.store.specs.Calls.{Drops, Admits}
 use Rattle.store.proofs.Places.{place_apart}
-use Rattle.frames.specs.Lines.{stride, mark_at, over, marked}
+use Rattle.frames.specs.Lines.{stride, over, marked}
 use Rattle.frames.specs.Format.{marks_in, symbols_in}
 use Rattle.frames.specs.Checks.{is_mark, text_refusal}
 use Rattle.frames.specs.Stores.{Remarked, Remarks}
@@ -30,13 +30,13 @@ module _ {X : Type 0} (K : Ghosts X) (m n meter lender : ℕ) where
   -- digits are written
   module _ (wide : (x : X) → length (K.bytes x) ≡ K.width) (back : (x : X) → K.symbol (K.bytes x) ≡ x)
       (there : (b : List ℕ) → length b ≡ K.width → Octets b → K.bytes (K.symbol b) ≡ b) (text values : List ℕ)
-      (c r : ℕ) (one : 1 ≤ c) (last : c ≤ m) (within : r < n) (room : m * n * stride K.width ≤ length text) (y : X) (real : Octets (K.bytes y))
+      (c r : ℕ) (one : 1 ≤ c) (last : c ≤ m) (within : r < n) (whole : 1 ≤ m → m * n * stride K.width ≡ length text) (y : X) (real : Octets (K.bytes y))
       (put : values ≡ over text (place_of n c r * stride K.width + 10) (hex (K.bytes y))) where
     fits : place_of n c r * stride K.width + stride K.width ≤ length text
-    fits = place_fits c r m n (stride K.width) (length text) one last within room
+    fits = place_fits c r m n (stride K.width) (length text) one last within whole
 
     long : length (hex (K.bytes y)) ≡ 2 * K.width
-    long = digits_long K.zero K.width K.bytes K.symbol wide back there y
+    long = digits_long K wide back there y
 
     pub written : Written (seen text) c r y (seen values)
     written =
@@ -50,18 +50,18 @@ module _ {X : Type 0} (K : Ghosts X) (m n meter lender : ℕ) where
           lost = λ d column. ap (λ (b : ℕ). not (eqb b 80)) (mark_over K.width text i ds fits long (place_of n d 0));
           meter = refl;
           lender = refl;
-          here = ap symbol (digits_here K.width text i ds fits long) ∙ digits_there K.zero K.width K.bytes K.symbol wide back there y real;
+          here = ap symbol (digits_here K.width text i ds fits long) ∙ digits_there K wide back there y real;
           others = λ d s inside apart. ap symbol (digits_other K.width text i ds fits long (place_of n d s) (place_apart d s c r n inside.0 one inside.2 within apart));
         })
 
     pub written_formed : text_refusal m n K.width text ≡ None → text_refusal m n K.width values ≡ None
     written_formed h =
         let ds = hex (K.bytes y) in
-        let digits = digits_is K.zero K.width K.bytes K.symbol wide back there y real in
+        let digits = digits_is K wide back there y real in
         ap (text_refusal m n K.width) put ∙ unrefused m n K.width _ (written_sound m n K.width text (sound m n K.width text h) (place_of n c r) ds fits digits)
 
   -- the lines of a column are marked
-  module _ (text values : List ℕ) (c mark : ℕ) (one : 1 ≤ c) (last : c ≤ m) (some : 0 < n) (room : m * n * stride K.width ≤ length text)
+  module _ (text values : List ℕ) (c mark : ℕ) (one : 1 ≤ c) (last : c ≤ m) (some : 0 < n) (whole : 1 ≤ m → m * n * stride K.width ≡ length text)
       (put : values ≡ marked K.width text ((c - 1) * n) n mark) where
     -- that of another column lies elsewhere
     elsewhere : (d : ℕ) → 1 ≤ d → (d ≡ c → ⊥) → (place_of n d 0 < (c - 1) * n) ⊎ ((c - 1) * n + n ≤ place_of n d 0)
@@ -75,7 +75,7 @@ module _ {X : Type 0} (K : Ghosts X) (m n meter lender : ℕ) where
 
     pub remarked : Remarked (seen text) c mark (seen values)
     remarked =
-        let first = place_fits c 0 m n (stride K.width) (length text) one last some room in
+        let first = place_fits c 0 m n (stride K.width) (length text) one last some whole in
         subst (λ v. Remarked (seen text) c mark (seen v)) (sym put)
         (record {
           columns = refl;
@@ -91,8 +91,9 @@ module _ {X : Type 0} (K : Ghosts X) (m n meter lender : ℕ) where
     marked_formed is h = ap (text_refusal m n K.width) put ∙ unrefused m n K.width _ (marked_sound m n K.width text (sound m n K.width text h) (c - 1) mark some is)
 
 -- the lines of a column lie in the text
-pub lines_fit : (s c m n size : ℕ) → 1 ≤ c → c ≤ m → m * n * s ≤ size → ((c - 1) * n + n) * s ≤ size
-lines_fit s c m n size one last room =
+pub lines_fit : (s c m n size : ℕ) → 1 ≤ c → c ≤ m → (1 ≤ m → m * n * s ≡ size) → ((c - 1) * n + n) * s ≤ size
+lines_fit s c m n size one last whole =
+    let e : m * n * s ≡ size = whole (omega arith) in
     let step : (c - 1 + 1) * n ≤ m * n = mul-le-mul_right n (omega arith) in
     let all : ((c - 1) * n + n) * s ≤ m * n * s = mul-le-mul_right s (omega arith) in
     omega arith

@@ -1,5 +1,5 @@
 -- What a frame store means: the text that it was lent.
-use Rattle.std.specs.Prelude.{◌≡◌, ℕ, ◌+◌, ◌-◌, ◌*◌, ◌%◌, ◌^◌, Bool, cond, not, List, length, is_some, None, Ok, Err, Result, ◌==◌, ◌≢◌}
+use Rattle.std.specs.Prelude.{◌≡◌, ℕ, ◌+◌, ◌-◌, ◌*◌, Bool, cond, not, List, is_some, None, Ok, Err, Result, ◌==◌, ◌≢◌}
 use Rattle.code.specs.declared.refusal.Refusal.{Refusal}
 use Rattle.code.specs.declared.refusal.Refusal.TheVariants.{NoSuchPlace}
 use Rattle.code.specs.declared.shape.Shape.{Shape}

@@ -17,7 +17,7 @@ pub fn column_part<'t, X: Symbol>(
     ensures { MatchResult result (λ part. (column_refusal (columns_of shape) (rows_of shape) X.Symbol.width text.now column ≡ None) × IsColumn (rows_of shape) X.Symbol.width text.now column part.now) (λ e. column_refusal (columns_of shape) (rows_of shape) X.Symbol.width text.now column ≡ Some e) }
 {
     check::<X>(shape, text)?;
-    if column < 1 || column > shape.columns() {
+    if !(1..=shape.columns()).contains(&column) {
         return Err(Refusal::NoSuchPlace { column, row: 0 });
     }
     let size = shape.rows() * stride::<X>();

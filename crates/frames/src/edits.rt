@@ -23,6 +23,7 @@ pub(crate) fn mark_lines<X: Symbol>(text: &mut [u8], first: usize, count: usize,
     ensures { text.new ≡ marked X.Symbol.width text.old first count mark }
 {
     let stride = stride::<X>();
+    // By number: what is written through `chunks_exact_mut` is not known afterwards.
     for line in first..first + count {
         text[line * stride] = mark;
     }

@@ -22,9 +22,10 @@ fn label(column: usize, row: usize) -> [u8; 9]
     requires row { row < 65536 }
     ensures { result ≡ label_of column row }
 {
+    let [high, low] = (row as u16).to_be_bytes();
     let [a, b] = digits(column as u8);
-    let [c, d] = digits((row / 256) as u8);
-    let [e, f] = digits((row % 256) as u8);
+    let [c, d] = digits(high);
+    let [e, f] = digits(low);
     [b' ', a, b, b' ', c, d, e, f, b' ']
 }
 

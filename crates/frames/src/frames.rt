@@ -1,5 +1,5 @@
 // A column store over a lent text, one line for each symbol.
-ghost use Rattle.std.specs.Prelude.{◌*◌, ◌^◌, ◌<◌, ◌≤◌, length};
+ghost use Rattle.std.specs.Prelude.{◌≡◌, ◌*◌, ◌^◌, ◌<◌, ◌≤◌, length};
 ghost use Rattle.frames.specs.Lines.{stride as stride_of};
 
 use std::marker::PhantomData;
@@ -12,7 +12,7 @@ pub struct Frames<'a, X: Symbol> {
     pub(crate) text: &'a mut [u8],
     pub(crate) meter: u64,
     pub(crate) kind: PhantomData<X>,
-    ghost some: { 1 ≤ columns → 1 ≤ rows },
-    ghost room: { columns * rows * stride_of X.Symbol.width ≤ length text.now },
+    ghost some: { (1 ≤ columns → 1 ≤ rows) × (1 ≤ rows → 1 ≤ columns) },
+    ghost whole: { 1 ≤ columns → columns * rows * stride_of X.Symbol.width ≡ length text.now },
     ghost counted: { meter < 2 ^ 64 },
 }

@@ -26,9 +26,9 @@ faithful : (g : given.Over) (s : Shape) (text : List ℕ) →
 faithful g s text =
     let K = g.X.Symbol in
     let M = g.met.X.Symbol in (
-      render_passes K.zero K.width K.bytes K.symbol M.wide M.back M.there (columns_of s) (rows_of s) text (rows_some s),
-      render_back K.zero K.width K.bytes K.symbol M.wide M.back M.there (columns_of s) (rows_of s) text,
-      render_there K.zero K.width K.bytes K.symbol M.wide M.back M.there (columns_of s) (rows_of s) text (rows_some s),
+      render_passes K M.wide M.back M.there (columns_of s) (rows_of s) text (rows_some s),
+      render_back K M.wide M.back M.there (columns_of s) (rows_of s) text,
+      render_there K M.wide M.back M.there (columns_of s) (rows_of s) text (rows_some s),
     )
 
 pub returns-then-text-needed : goal.returns-then-text-needed

@@ -1,5 +1,5 @@
 use Rattle.std.proofs.Common.{refl, ap, ◌∙◌, arith}
-use Rattle.frames.proofs.Made.{Sized, sized_passed, sized_refused, some_of, room_of, formed_of, over_of}
+use Rattle.frames.proofs.Made.{Sized, sized_passed, sized_refused, some_of, whole_of, formed_of, over_of}
 use Rattle.frames.proofs.frames.Frames.over.Given as given
 use Rattle.frames.proofs.frames.Frames.over.Goals.{in-Ok, in-Err}
 use Rattle.frames.proofs.frames.Frames.over.Goals as goal
@@ -13,7 +13,7 @@ sized g c = elim c.match-check.branch [
 pub invariant_of-result : goal.invariant_of-result
 invariant_of-result g c =
     let z = sized g c in
-    record { some = some_of _ _ _ _ _ z; room = room_of _ _ _ _ _ z; counted = omega arith }
+    record { some = some_of _ _ _ _ _ z; whole = whole_of _ _ _ _ _ z; counted = omega arith }
 
 pub returns : goal.returns
 returns g c = let z = sized g c.before in record { memory = refl; view = over_of _ _ _ _ _ _ _ _ z; formed = formed_of _ _ _ _ _ z }
