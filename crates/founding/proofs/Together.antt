@@ -16,7 +16,7 @@ use Rattle.columns.proofs.Passed.{Loadable, loadable}
 use Rattle.founding.specs.Found.{Extended, Founded}
 
 -- one parity column more
-pub extended_more :
+extended_more :
     {X : Type 0} (g h h' : View X) (k n m : ℕ) (F : ℕ → ℕ → X) → k + n < g.columns → m ≤ g.rows →
     Extended g k n m F h → Renewed h (k + (n + 1)) m (F (k + (n + 1) - k)) h' → Extended g k (n + 1) m F h'
 extended_more {X} g h h' k n m F room fit E R' = record {
@@ -44,6 +44,15 @@ extended_more {X} g h h' k n m F room fit E R' = record {
 
     inside : (d row : ℕ) → 1 ≤ d → d ≤ g.columns → row < m → Inside h d row
     inside d row one last low = (one, subst (λ c. d ≤ c) (sym E.columns) last, subst (λ r. row < r) (sym E.rows) (omega arith))
+
+-- the same by the column's number
+pub extended_next :
+    {X : Type 0} (g h h' : View X) (k c m : ℕ) (F : ℕ → ℕ → X) → k < c → c ≤ g.columns → m ≤ g.rows →
+    Extended g k (c - (k + 1)) m F h → Renewed h c m (F (c - k)) h' → Extended g k (c + 1 - (k + 1)) m F h'
+extended_next g h h' k c m F past last fit E R =
+    let here : c ≡ k + (c - (k + 1) + 1) = omega arith in
+    let next : c - (k + 1) + 1 ≡ c + 1 - (k + 1) = omega arith in
+    subst (λ i. Extended g k i m F h') next (extended_more g h h' k (c - (k + 1)) m F (omega arith) fit E (subst (λ d. Renewed h d m (F (d - k)) h') here R))
 
 module _ {X : Type 0} (none : X) (plus : X → X → X) (L : BooleanGroup none plus) (s : Shape) (g h h' : View X) (before work after : List X) where
   -- `rows` is what the shape answered

@@ -25,8 +25,8 @@ fn write_parities<X: Symbol, S: ColumnStore<X>>(
     requires room { data_of shape ≤ length cells.now }
     ensures { Accepts (λ _. Extended (S.ColumnStore.view store.old) shape.k (parities_of shape) (rows_of shape) (parity_of X.Symbol.zero X.Symbol.plus shape (symbols_of X.Symbol.zero (rows_of shape) cells.now)) (S.ColumnStore.view store.new)) result }
 {
-    for j in 0..shape.parities() {
-        write_parity(store, shape, shape.k + (j + 1), cells)?;
+    for column in shape.k + 1..=shape.columns() {
+        write_parity(store, shape, column, cells)?;
     }
     Ok(())
 }
