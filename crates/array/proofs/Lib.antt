@@ -1,3 +1,4 @@
 pub mod Lowest
+pub mod Found
 pub mod Checked
 pub mod Books

@@ -8,7 +8,8 @@ use code::{Refusal, Shape};
 use store::ColumnStore;
 use symbol::Symbol;
 
-// Whether the store has the shape's columns and rows.
+// Whether the store has the shape's columns and rows. That it does is a fact that private calls ask for, and no struct of
+// shape and store: one that is lent on would owe two facts in its place, that its shape and its store stay the same.
 pub fn check_fit<X: Symbol, S: ColumnStore<X>>(store: &S, shape: Shape) -> Result<(), Refusal>
     ensures { Fitting shape (S.ColumnStore.view store.now) result }
 {
@@ -35,10 +36,5 @@ pub fn check_room(shape: Shape, room: usize) -> Result<(), Refusal>
 pub fn lowest_lost<X: Symbol, S: ColumnStore<X>>(store: &S, count: usize) -> Option<usize>
     ensures { result ≡ lowest_lost (counts_as_lost (S.ColumnStore.view store.now)) count }
 {
-    for c in 0..count {
-        if store.is_lost(c + 1) {
-            return Some(c + 1);
-        }
-    }
-    None
+    (1..=count).find(|c| store.is_lost(*c))
 }

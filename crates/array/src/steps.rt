@@ -1,5 +1,7 @@
 // The steps of accepted calls. Only here does a store's refusal become number 16.
 ghost use Rattle.std.specs.Prelude.{◌≡◌};
+ghost use Rattle.code.specs.declared.refusal.Refusal.TheVariants.{StoreRefused};
+ghost use Rattle.code.specs.Refusals.{number_of};
 ghost use Rattle.store.specs.Calls.{Reads, Writes, Drops, Admits};
 ghost use Rattle.array.specs.Checks.{Cleared};
 ghost use Rattle.array.specs.Steps.{Stepped};
@@ -8,6 +10,15 @@ use code::Refusal;
 use store::ColumnStore;
 use symbol::Symbol;
 
+// A store's refusal, as the call that meets it tells it.
+fn refused(cause: Refusal) -> Refusal
+    ensures { result ≡ StoreRefused (number_of cause) }
+{
+    Refusal::StoreRefused {
+        number: cause.number(),
+    }
+}
+
 pub fn read<X: Symbol, S: ColumnStore<X>>(
     store: &mut S,
     column: usize,
@@ -15,10 +26,7 @@ pub fn read<X: Symbol, S: ColumnStore<X>>(
 ) -> Result<X, Refusal>
     ensures { Stepped (λ answer. Reads S.ColumnStore.view store.old column row answer store.new) result }
 {
-    match store.read(column, row) {
-        Ok(symbol) => Ok(symbol),
-        Err(e) => Err(Refusal::StoreRefused { number: e.number() }),
-    }
+    store.read(column, row).map_err(refused)
 }
 
 pub fn write<X: Symbol, S: ColumnStore<X>>(
@@ -29,10 +37,7 @@ pub fn write<X: Symbol, S: ColumnStore<X>>(
 ) -> Result<(), Refusal>
     ensures { Stepped (λ answer. Writes S.ColumnStore.view store.old column row symbol answer store.new) result }
 {
-    match store.write(column, row, symbol) {
-        Ok(()) => Ok(()),
-        Err(e) => Err(Refusal::StoreRefused { number: e.number() }),
-    }
+    store.write(column, row, symbol).map_err(refused)
 }
 
 pub fn drop_column<X: Symbol, S: ColumnStore<X>>(
@@ -41,26 +46,20 @@ pub fn drop_column<X: Symbol, S: ColumnStore<X>>(
 ) -> Result<(), Refusal>
     ensures { Stepped (λ answer. Drops S.ColumnStore.view store.old column answer store.new) result }
 {
-    match store.drop_column(column) {
-        Ok(()) => Ok(()),
-        Err(e) => Err(Refusal::StoreRefused { number: e.number() }),
-    }
+    store.drop_column(column).map_err(refused)
 }
 
 pub fn admit<X: Symbol, S: ColumnStore<X>>(store: &mut S, column: usize) -> Result<(), Refusal>
     ensures { Stepped (λ answer. Admits S.ColumnStore.view store.old column answer store.new) result }
 {
-    match store.admit(column) {
-        Ok(()) => Ok(()),
-        Err(e) => Err(Refusal::StoreRefused { number: e.number() }),
-    }
+    store.admit(column).map_err(refused)
 }
 
 // Makes every symbol of a work area zero.
 pub fn clear<X: Symbol>(work: &mut [X])
     ensures { Cleared X.Symbol.zero work.new }
 {
-    for i in 0..work.len() {
-        work[i] = X::zero();
+    for cell in work.iter_mut() {
+        *cell = X::zero();
     }
 }

@@ -1,8 +1,9 @@
 -- One turn more of each loop.
-use Rattle.std.proofs.Common.{◌≡◌, ℕ, ◌+◌, ◌-◌, ◌*◌, ◌%◌, ◌^◌, ◌<◌, ◌≤◌, List, length, get_or, set, sym, ap, ◌∙◌, subst, inl, inr, add_assoc, mul-le-mul_right, mod-eq_of_lt, arith}
+use Rattle.std.proofs.Common.{◌≡◌, ℕ, ◌+◌, ◌-◌, ◌*◌, ◌%◌, ◌^◌, ◌<◌, ◌≤◌, List, ◌++◌, length, get_or, take, sym, ap, ◌∙◌, subst, ap₂, inl, inr, add_assoc, mul-le-mul_right, mod-eq_of_lt, arith}
 use native.Mathlib.Nat.{mod-add-mod}
 use Rattle.std.proofs.lemmas.Bool.{cases_eq}
-use Rattle.std.proofs.lemmas.List.{get_or-set_same, get_or-set_other}
+use Rattle.std.proofs.lemmas.List.{get_or_append_left, get_or-append_right, get_or-take, get_or-drop, length-take-le}
+use borrow.Rule.Slice.PartMut.{put_mid, post_of}
 use Rattle.code.specs.Places.{symbols_of}
 use Rattle.store.specs.View.{View, Column, Inside, metered, Written, Admitted}
 use Rattle.columns.specs.Progress.{Loaded, Gathered, Refilled, Renewed}
@@ -15,29 +16,29 @@ metered_none g h =
 pub metered_more : {X : Type 0} (g : View X) (a b : ℕ) → metered b (metered a g) ≡ metered (a + b) g
 metered_more g a b = ap (λ m. record { columns = g.columns; rows = g.rows; at = g.at; lost = g.lost; meter = m; lender = g.lender }) (mod-add-mod (g.meter + a) (2 ^ 64) b ∙ ap (λ x. x % 2 ^ 64) (add_assoc g.meter a b))
 
-pub loaded_more :
-    {X : Type 0} (none : X) (g h h' : View X) (c n start : ℕ) (before after : List X) (x : X) → start + n < length after →
-    Loaded none g c n start before h after → x ≡ h.at c n → h' ≡ metered 1 h → Loaded none g c (n + 1) start before h' (set after (start + n) x)
-loaded_more none g h h' c n start before after x room L e m = record {
-  meter = m ∙ ap (metered 1) L.meter ∙ metered_more g n 1;
-  here = λ row low. elim (cases_eq row n) [
-    | inl same ↦ subst (λ y. get_or (set after (start + n) x) (start + y) none ≡ g.at c y) (sym same) (get_or-set_same after (start + n) x none room ∙ e ∙ ap (λ (v : View _). v.at c n) L.meter)
-    | inr other ↦ get_or-set_other after (start + n) (start + row) x none (λ z. other (omega arith)) ∙ L.here row (omega arith)
-  ];
-  below = λ y low. get_or-set_other after (start + n) y x none (λ z. omega arith) ∙ L.below y low;
-  above = λ y high. get_or-set_other after (start + n) y x none (λ z. omega arith) ∙ L.above y (omega arith);
-}
+-- a list with other symbols from a place on: those, and what stands before and behind
+module _ {X : Type 0} (none : X) (a k : ℕ) (xs ys : List X) (there : a ≤ length xs) (long : length ys ≡ k) where
+  part_below : (x : ℕ) → x < a → get_or (put_mid a k xs ys) x none ≡ get_or xs x none
+  part_below x low = get_or_append_left (take a xs) _ none x (omega (arith, length-take-le a xs there)) ∙ get_or-take a xs x none low
+
+  part_here : (x : ℕ) → x < k → get_or (put_mid a k xs ys) (a + x) none ≡ get_or ys x none
+  part_here x low = get_or-append_right (take a xs) _ a (a + x) none (length-take-le a xs there) (omega arith) ∙ ap (λ i. get_or (ys ++ post_of a k xs) i none) (omega arith) ∙ get_or_append_left ys _ none x (omega arith)
+
+  part_above : (x : ℕ) → a + k ≤ x → get_or (put_mid a k xs ys) x none ≡ get_or xs x none
+  part_above x high =
+      get_or-append_right (take a xs) _ a x none (length-take-le a xs there) (omega arith) ∙ get_or-append_right ys _ k (x - a) none long (omega arith)
+      ∙ get_or-drop k _ (x - a - k) none ∙ get_or-drop a xs (k + (x - a - k)) none ∙ ap (λ i. get_or xs i none) (omega arith)
 
 pub gathered_more :
-    {X : Type 0} (none : X) (rows n : ℕ) (g h h' : View X) (before work after : List X) →
-    Gathered none rows g n before h work → Loaded none h (n + 1) rows (n * rows) work h' after → Gathered none rows g (n + 1) before h' after
-gathered_more none rows n g h h' before work after G L = record {
-  meter = L.meter ∙ ap (metered rows) G.meter ∙ metered_more g (n * rows) rows ∙ ap (λ m. metered m g) (omega arith);
+    {X : Type 0} (none : X) (rows n k : ℕ) (g h h' : View X) (before work part : List X) → n * rows + rows ≤ length work → k ≡ rows → length part ≡ rows →
+    Gathered none rows g n before h work → Loaded none h (n + 1) h' part → Gathered none rows g (n + 1) before h' (put_mid (n * rows) k work part)
+gathered_more none rows n k g h h' before work part room size long G L = record {
+  meter = L.meter ∙ ap₂ metered long G.meter ∙ metered_more g (n * rows) rows ∙ ap (λ m. metered m g) (omega arith);
   here = λ c row one last low. elim (cases_eq c (n + 1)) [
-    | inl same ↦ subst (λ d. symbols_of none rows after d row ≡ g.at d row) (sym same) (ap (λ (i : ℕ). get_or after (i * rows + row) none) (omega arith) ∙ L.here row low ∙ ap (λ (v : View _). v.at (n + 1) row) G.meter)
-    | inr other ↦ L.below ((c - 1) * rows + row) (place c row one (omega arith) low) ∙ G.here c row one (omega arith) low
+    | inl same ↦ subst (λ d. symbols_of none rows (put_mid (n * rows) k work part) d row ≡ g.at d row) (sym same) (ap (λ (i : ℕ). get_or (put_mid (n * rows) k work part) (i * rows + row) none) (omega arith) ∙ part_here none (n * rows) k work part (omega arith) (omega arith) row (omega arith) ∙ L.here row (omega arith) ∙ ap (λ (v : View _). v.at (n + 1) row) G.meter)
+    | inr other ↦ part_below none (n * rows) k work part (omega arith) (omega arith) ((c - 1) * rows + row) (place c row one (omega arith) low) ∙ G.here c row one (omega arith) low
   ];
-  beyond = λ x past. L.above x (omega arith) ∙ G.beyond x (omega arith);
+  beyond = λ x past. part_above none (n * rows) k work part (omega arith) (omega arith) x (omega arith) ∙ G.beyond x (omega arith);
 }
   where
     place : (c row : ℕ) → 1 ≤ c → c ≤ n → row < rows → (c - 1) * rows + row < n * rows

@@ -1,14 +1,12 @@
 -- What the steps over whole columns leave.
-use Rattle.std.specs.Prelude.{◌≡◌, ℕ, ◌+◌, ◌*◌, ◌<◌, ◌≤◌, false, List, ◌≢◌, slice_index_or}
+use Rattle.std.specs.Prelude.{◌≡◌, ℕ, ◌*◌, ◌<◌, ◌≤◌, false, List, length, ◌≢◌, slice_index_or}
 use Rattle.code.specs.Places.{symbols_of}
 use Rattle.store.specs.View.{View, Inside, Column, metered}
 
--- the first n rows of column c stand from `start` on, and what stands elsewhere is as it was
-pub record Loaded {X : Type 0} (none : X) (g : View X) (c n start : ℕ) (before : List X) (h : View X) (after : List X) : Type 0 where
-  pub meter : h ≡ metered n g
-  pub here : (row : ℕ) → row < n → slice_index_or after (start + row) none ≡ g.at c row
-  pub below : (x : ℕ) → x < start → slice_index_or after x none ≡ slice_index_or before x none
-  pub above : (x : ℕ) → start + n ≤ x → slice_index_or after x none ≡ slice_index_or before x none
+-- the first rows of column c stand in the part, as many as it has, and each was read once
+pub record Loaded {X : Type 0} (none : X) (g : View X) (c : ℕ) (h : View X) (part : List X) : Type 0 where
+  pub meter : h ≡ metered (length part) g
+  pub here : (row : ℕ) → row < length part → slice_index_or part row none ≡ g.at c row
 
 -- the first n columns stand one after another, and what stands behind them is as it was; the meter has their reads
 pub record Gathered {X : Type 0} (none : X) (rows : ℕ) (g : View X) (n : ℕ) (before : List X) (h : View X) (after : List X) : Type 0 where

@@ -10,27 +10,25 @@ use code::{Refusal, Shape};
 use store::ColumnStore;
 use symbol::Symbol;
 
-// A whole column into the work area.
+// The rows of a column into a part of the work area.
 fn load_column<X: Symbol, S: ColumnStore<X>>(
     store: &mut S,
     column: usize,
-    rows: usize,
-    work: &mut [X],
-    start: usize,
+    part: &mut [X],
 ) -> Result<(), Refusal>
     requires column { Column (S.ColumnStore.view store.old) column }
-    requires rows { rows ≤ (S.ColumnStore.view store.old).rows }
+    requires rows { length part.old ≤ (S.ColumnStore.view store.old).rows }
     requires present { (S.ColumnStore.view store.old).lost column ≡ false }
-    requires room { start + rows ≤ length work.old }
-    ensures { Accepts (λ _. Loaded X.Symbol.zero (S.ColumnStore.view store.old) column rows start work.old (S.ColumnStore.view store.new) work.new) result }
+    ensures { Accepts (λ _. Loaded X.Symbol.zero (S.ColumnStore.view store.old) column (S.ColumnStore.view store.new) part.new) result }
 {
-    for row in 0..rows {
-        work[start + row] = read(store, column, row)?;
+    for (row, cell) in part.iter_mut().enumerate() {
+        *cell = read(store, column, row)?;
     }
     Ok(())
 }
 
-// The first columns into the work area, one after another.
+// The first columns into the work area, one after another. Parts by ranges: of chunks that an iterator lends, a proof does
+// not know the symbols afterwards.
 fn gather<X: Symbol, S: ColumnStore<X>>(
     store: &mut S,
     count: usize,
@@ -44,7 +42,8 @@ fn gather<X: Symbol, S: ColumnStore<X>>(
     ensures { Accepts (λ _. Gathered X.Symbol.zero rows (S.ColumnStore.view store.old) count work.old (S.ColumnStore.view store.new) work.new) result }
 {
     for c in 0..count {
-        load_column(store, c + 1, rows, work, c * rows)?;
+        let start = c * rows;
+        load_column(store, c + 1, &mut work[start..start + rows])?;
     }
     Ok(())
 }

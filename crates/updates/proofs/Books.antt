@@ -18,20 +18,20 @@ use Rattle.array.specs.Steps.{Stepped, Accepts}
 use Rattle.array.proofs.Books.{read_on}
 use Rattle.array.proofs.Checked.{wide, long, is_present}
 use Rattle.updates.specs.Views.{Leaves}
-use Rattle.updates.specs.Updates.{place_refusal, put_symbols, put_reads, Put, Puts, Gets, TellsTable}
+use Rattle.updates.specs.Updates.{place_refusal, put_symbols, put_reads, Put, Gets, TellsTable}
 
 not_both : true ≡ false → ⊥
 not_both e = let z : ◌≡◌ {A = ℕ} 0 1 = cc in omega arith
 
 -- what the checks of a put or a get that passed say
-pub record Place {X : Type 0} (s : Shape) (g : View X) (c row : ℕ) : Type 0 where
+pub record Passed {X : Type 0} (s : Shape) (g : View X) (c row : ℕ) : Type 0 where
   pub fit : fits s g ≡ true
   pub one : 1 ≤ c
   pub last : c ≤ s.k
   pub low : row < rows_of s
   pub present : g.lost c ≡ false
 
-pub placed : {X : Type 0} (s : Shape) (g : View X) (c row : ℕ) → place_refusal s g c row ≡ None → Place s g c row
+pub placed : {X : Type 0} (s : Shape) (g : View X) (c row : ℕ) → place_refusal s g c row ≡ None → Passed s g c row
 placed s g c row h = record { fit = grind (arith, nat_tests); one = grind (arith, nat_tests); last = grind (arith, nat_tests); low = grind (arith, nat_tests); present = is_present g c (grind (arith, nat_tests)) }
 
 module _ {X : Type 0} (none : X) (plus : X → X → X) (s : Shape) where
@@ -39,11 +39,11 @@ module _ {X : Type 0} (none : X) (plus : X → X → X) (s : Shape) where
   pub got : {S : Type 0} (view : S → View X) (a z : S) (c row : ℕ) (r : Result X Refusal) → place_refusal s (view a) c row ≡ None → Stepped (λ answer. Reads view a c row answer z) r → Gets view s a c row r z × Keeps none plus s looks (is_ok r) (view a) (view z) × TellsTable none plus s (view a) c row r
   got view a z c row (Ok x) h R = ((h, R.2, R.3), read_on none plus s true 1 (view a) (view z) R.3, λ b A table e. R.2 ∙ A.symbols table e c row (P.one, omega (arith, P.last, wide s (view a) P.fit), omega (arith, P.low, long s (view a) P.fit)) P.present ∙ rw (le-leb c s.k P.last))
     where
-      P : Place s (view a) c row
+      P : Passed s (view a) c row
       P = placed s (view a) c row h
   got view a z c row (Err e) h R = absurd (unread R.1.0)
     where
-      P : Place s (view a) c row
+      P : Passed s (view a) c row
       P = placed s (view a) c row h
 
       unread : {e : Refusal} → Unread (view a) c row e → ⊥
@@ -51,7 +51,7 @@ module _ {X : Type 0} (none : X) (plus : X → X → X) (s : Shape) where
       unread (inr u) = let lost = u.1 in let present = P.present in let z : ◌≡◌ {A = Bool} true false = cc in not_both z
 
   -- a put sets its place in the data table, and the parities follow
-  module _ (L : BooleanGroup none plus) (c row : ℕ) (x : X) (n : ℕ) (g h : View X) (P : Place s g c row) (W : Put plus s g c row x n h) where
+  module _ (L : BooleanGroup none plus) (c row : ℕ) (x : X) (n : ℕ) (g h : View X) (P : Passed s g c row) (W : Put plus s g c row x n h) where
     V : Leaves g (put_reads s g c row) (put_symbols plus s g c row x) h
     V = W.leaves
 
@@ -100,7 +100,9 @@ module _ {X : Type 0} (none : X) (plus : X → X → X) (s : Shape) where
           follows was.0 (A.symbols was.0 was.1) d y at_g (sym (V.marks d (at_g.0, at_g.1)) ∙ present) ∙ ap (λ (t : ℕ → ℕ → X). built none plus s t d y) was.2;
     }
 
-  -- an accepted put
-  pub was_put : BooleanGroup none plus → {S : Type 0} (view : S → View X) (a z : S) (c row : ℕ) (x : X) (r : Result ℕ Refusal) → place_refusal s (view a) c row ≡ None → Accepts (λ n. Put plus s (view a) c row x n (view z)) r → Puts view plus s a c row x r z × Keeps none plus s (puts c row x) (is_ok r) (view a) (view z)
-  was_put L view a z c row x (Ok n) h W = ((h, W), put_keeps L c row x n (view a) (view z) (placed s (view a) c row h) W)
-  was_put L view a z c row x (Err e) h W = absurd W
+  -- an accepted put, at a place that is told by equations
+  pub was_put :
+      BooleanGroup none plus → (g h : View X) (a : Shape) (d y c row : ℕ) (x : X) (r : Result ℕ Refusal) → (a ≡ s) × (d ≡ c) × (y ≡ row) → place_refusal s g c row ≡ None →
+      Accepts (λ n. Put plus a g d y x n h) r → Keeps none plus s (puts c row x) (is_ok r) g h
+  was_put L g h a d y c row x (Ok n) (shape-is, column-is, row-is) passed W = put_keeps L c row x n g h (placed s g c row passed) (rw (← shape-is, ← column-is, ← row-is) W)
+  was_put L g h a d y c row x (Err e) is passed W = absurd W

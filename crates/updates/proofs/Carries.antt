@@ -1,5 +1,5 @@
 -- How a change goes into the parities, one position, one parity, one turn of the loop at a time.
-use Rattle.std.proofs.Common.{◌≡◌, ℕ, zero, suc, ◌+◌, ◌-◌, ◌*◌, ◌%◌, ◌^◌, ◌<◌, ◌≤◌, Bool, true, false, cond, not, ◌&&◌, ◌||◌, eqb, ltb, leb, Some, None, sym, refl, ap, ◌∙◌, subst, ap₂, inl, inr, add_assoc, mod-lt, mod-eq_of_lt, add-one, arith}
+use Rattle.std.proofs.Common.{◌≡◌, ℕ, zero, suc, ◌+◌, ◌-◌, ◌*◌, ◌%◌, ◌^◌, ◌<◌, ◌≤◌, Bool, true, false, cond, not, ◌&&◌, ◌||◌, eqb, ltb, leb, sym, refl, ap, ◌∙◌, subst, ap₂, inl, inr, add_assoc, mod-lt, mod-eq_of_lt, add-one, arith}
 use native.Mathlib.Nat.{mod-add-mod}
 use Rattle.std.proofs.lemmas.Bool.{cases_eq, eq-eqb, ne_eqb}
 use Rattle.std.proofs.lemmas.Bool.Decides.{nat_tests}
@@ -7,7 +7,7 @@ use Rattle.ring.specs.Sums.{sum_to, count}
 use Rattle.ring.proofs.Counts.{count_same, count_none, count_or}
 use Rattle.ring.proofs.Residues.{mod_wrap}
 use Rattle.code.specs.declared.shape.Shape.{Shape}
-use Rattle.code.specs.Shapes.{parities_of, columns_of, classes_of, rows_of, positions_of, shift_of, is_shifted}
+use Rattle.code.specs.Shapes.{parities_of, columns_of, classes_of, rows_of, positions_of, shift_of}
 use Rattle.code.specs.Parities.{direct, through_class, takes_in}
 use Rattle.code.proofs.Bounds.{classes_pos, positions_are, shift_low}
 use Rattle.store.specs.View.{View, Column, Inside, counts_as_lost, metered, Written}
@@ -16,13 +16,6 @@ use Rattle.array.specs.Book.{with_symbol}
 use Rattle.array.proofs.Checked.{wide}
 use Rattle.updates.specs.Views.{Leaves, adding, Added}
 use Rattle.updates.specs.Updates.{carries, carried, Put}
-
-pub shift_known : (s : Shape) (j c x : ℕ) → 1 ≤ j → j ≤ parities_of s → 1 ≤ c → c ≤ s.k → Some x ≡ cond (is_shifted s j c) (Some (shift_of s j c)) None → x ≡ shift_of s j c
-shift_known s j c x j₁ j₂ c₁ c₂ e = let there : is_shifted s j c ≡ true = grind (arith, nat_tests) in taken (is_shifted s j c) there e
-  where
-    taken : (b : Bool) → b ≡ true → Some x ≡ cond b (Some (shift_of s j c)) None → x ≡ shift_of s j c
-    taken true h z = cc
-    taken false h z = absurd (let y : ◌≡◌ {A = ℕ} 0 1 = cc in omega arith)
 
 module _ (s : Shape) (j c row : ℕ) (j₁ : 1 ≤ j) (j₂ : j ≤ parities_of s) (c₁ : 1 ≤ c) (c₂ : c ≤ s.k) (low : row < rows_of s) where
   class_low : row % classes_of s < classes_of s
@@ -38,9 +31,6 @@ module _ (s : Shape) (j c row : ℕ) (j₁ : 1 ≤ j) (j₂ : j ≤ parities_of 
 
 pub really_lost : {X : Type 0} (g : View X) (c : ℕ) → 1 ≤ c → c ≤ g.columns → counts_as_lost g c ≡ true → g.lost c ≡ true
 really_lost g c one last h = grind (arith, nat_tests)
-
-pub still_fits : {X : Type 0} (s : Shape) (g h : View X) → h.columns ≡ g.columns → h.rows ≡ g.rows → fits s g ≡ true → fits s h ≡ true
-still_fits s g h columns rows e = ap₂ (λ a b. eqb a (columns_of s) && eqb b (rows_of s)) columns rows ∙ e
 
 count_one : (n a : ℕ) → count n (λ y. eqb y a) ≡ cond (ltb a n) 1 0
 count_one zero a = grind (arith, nat_tests)
@@ -125,14 +115,13 @@ module _ {X : Type 0} (plus : X → X → X) (δ : X) where
         nothing = count_same (rows_of s) (carries s g c row (s.k + j)) (λ y. false) (λ y h. never y) ∙ count_none (rows_of s)
 
     pub parity_present :
-        (a b m n : ℕ) (h i : View X) → g.lost (s.k + j) ≡ false → a ≡ direct s j c row → b ≡ through_class s j c row →
-        (rows : ℕ) → rows ≡ rows_of s →
-        Added plus δ (λ d y. eqb d (s.k + j) && eqb y a) (cond (ltb a rows) 1 0) g m h →
-        Added plus δ (λ d y. eqb d (s.k + j) && eqb y b) (cond (ltb b rows) 1 0) h n i →
+        (a b m n : ℕ) (h i : View X) → g.rows ≡ rows_of s → g.lost (s.k + j) ≡ false → a ≡ direct s j c row → b ≡ through_class s j c row →
+        Added plus δ (λ d y. eqb d (s.k + j) && eqb y a) (cond (ltb a g.rows) 1 0) g m h →
+        Added plus δ (λ d y. eqb d (s.k + j) && eqb y b) (cond (ltb b h.rows) 1 0) h n i →
         Added plus δ (λ d y. eqb d (s.k + j) && carries s g c row d y) (carried s g c row (s.k + j)) g (m + n) i
-    parity_present a b m n h i present ea eb rows er A B = record {
+    parity_present a b m n h i long present ea eb A B = record {
       reads = ap₂ ◌+◌ A.reads B.reads ∙ total;
-      leaves = leaves_as (λ d y. eqb d (s.k + j) && carries s g c row d y) (λ d y. eqb d (s.k + j) && carries s g c row d y) (cond (ltb a rows) 1 0 + cond (ltb b rows) 1 0) (carried s g c row (s.k + j)) g i total (λ d y inside. refl) (leaves_both (λ d y. eqb d (s.k + j) && eqb y a) (λ d y. eqb d (s.k + j) && eqb y b) (λ d y. eqb d (s.k + j) && carries s g c row d y) (cond (ltb a rows) 1 0) (cond (ltb b rows) 1 0) g h i A.leaves B.leaves (λ d y inside. way d y));
+      leaves = leaves_as (λ d y. eqb d (s.k + j) && carries s g c row d y) (λ d y. eqb d (s.k + j) && carries s g c row d y) (cond (ltb a g.rows) 1 0 + cond (ltb b h.rows) 1 0) (carried s g c row (s.k + j)) g i total (λ d y inside. refl) (leaves_both (λ d y. eqb d (s.k + j) && eqb y a) (λ d y. eqb d (s.k + j) && eqb y b) (λ d y. eqb d (s.k + j) && carries s g c row d y) (cond (ltb a g.rows) 1 0) (cond (ltb b h.rows) 1 0) g h i A.leaves B.leaves (λ d y inside. way d y));
     }
       where
         differ : a ≡ b → ⊥
@@ -141,8 +130,8 @@ module _ {X : Type 0} (plus : X → X → X) (δ : X) where
         there : (y : ℕ) → carries s g c row (s.k + j) y ≡ (eqb y a || eqb y b)
         there y = target_carries present y ∙ ap₂ (λ u v. eqb y u || eqb y v) (sym ea) (sym eb)
 
-        total : cond (ltb a rows) 1 0 + cond (ltb b rows) 1 0 ≡ carried s g c row (s.k + j)
-        total = ap (λ r. cond (ltb a r) 1 0 + cond (ltb b r) 1 0) er ∙ sym (count_two (rows_of s) a b differ) ∙ count_same (rows_of s) (λ y. eqb y a || eqb y b) (carries s g c row (s.k + j)) (λ y h. sym (there y))
+        total : cond (ltb a g.rows) 1 0 + cond (ltb b h.rows) 1 0 ≡ carried s g c row (s.k + j)
+        total = ap₂ (λ q r. cond (ltb a q) 1 0 + cond (ltb b r) 1 0) long (A.leaves.rows ∙ long) ∙ sym (count_two (rows_of s) a b differ) ∙ count_same (rows_of s) (λ y. eqb y a || eqb y b) (carries s g c row (s.k + j)) (λ y h. sym (there y))
 
         way : (d y : ℕ) → ((eqb d (s.k + j) && carries s g c row d y) ≡ ((eqb d (s.k + j) && eqb y a) || (eqb d (s.k + j) && eqb y b))) × (((eqb d (s.k + j) && eqb y a) && (eqb d (s.k + j) && eqb y b)) ≡ false)
         way d y =

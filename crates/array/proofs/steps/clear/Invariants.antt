@@ -1,5 +1,5 @@
 use Rattle.std.proofs.Common.{◌≡◌, ℕ, ◌<◌, get_or}
 use Rattle.array.proofs.steps.clear.Given as goal
 
-abbrev pub invariant-loop-i : goal.invariant-loop-i
-invariant-loop-i g l = (x : ℕ) → x < l.i → get_or l.work x g.X.Symbol.zero ≡ g.X.Symbol.zero
+abbrev pub invariant-loop-cell : goal.invariant-loop-cell
+invariant-loop-cell g l = (k : ℕ) → k < l.cell-index → get_or l.work k g.X.Symbol.zero ≡ g.X.Symbol.zero
