@@ -1,5 +1,5 @@
 -- A plan's numbers: what they are and how large.
-use Rattle.std.proofs.Common.{◌≡◌, ℕ, suc, ◌+◌, ◌-◌, ◌*◌, ◌/◌, ◌^◌, ◌<◌, ◌≤◌, cond, List, get_or, sym, ap, ◌∙◌, ap₂, mul-le-mul_right, mul_assoc, mul-le-mul_left, one-mul, pow-suc, mul-div_cancel, arith}
+use Rattle.std.proofs.Common.{◌≡◌, ℕ, suc, ◌+◌, ◌-◌, ◌*◌, ◌/◌, ◌^◌, ◌<◌, ◌≤◌, cond, List, get_or, sym, ap, ◌∙◌, subst, ap₂, mul-le-mul_right, mul_assoc, mul-le-mul_left, one-mul, pow-suc, mul-div_cancel, arith}
 use native.Mathlib.Nat.{pow-le-pow_right, mul-sub}
 use Rattle.code.specs.declared.shape.Shape.{Shape}
 use Rattle.code.specs.Shapes.{parities_of, helpers_of, classes_of, rows_of, shift_of}
@@ -17,8 +17,8 @@ module _ (s : Shape) (f : ℕ) (one : 1 ≤ f) (last : f ≤ s.k) where
       omega (arith, classes_low s, s.small)
 
   -- the steps are the shifts of the parity that has one
-  pub steps_are : (u : ParityRule) → u.shape ≡ s → u.parity ≡ cond (first_half s f) 2 (parities_of s) → (i : ℕ) → i < s.k → shift_of u.shape u.parity (i + 1) ≡ step s f (i + 1)
-  steps_are u shape parity i h = ap₂ (λ a j. shift_of a j (i + 1)) shape parity ∙ F.unit_shift s f one last (i + 1) (omega arith) (omega arith)
+  pub steps_are : (u : ParityRule) → u.shape ≡ s → u.parity ≡ cond (first_half s f) 2 (parities_of s) → (steps : List ℕ) → ((i : ℕ) → i < u.shape.k → get_or steps i 0 ≡ shift_of u.shape u.parity (i + 1)) → (i : ℕ) → i < s.k → get_or steps i 0 ≡ step s f (i + 1)
+  steps_are u shape parity steps are i h = are i (subst (λ a. i < a.k) (sym shape) h) ∙ ap₂ (λ a j. shift_of a j (i + 1)) shape parity ∙ F.unit_shift s f one last (i + 1) (omega arith) (omega arith)
 
   -- the lost column's own step is the span
   pub span_at : (steps : List ℕ) → ((i : ℕ) → i < s.k → get_or steps i 0 ≡ step s f (i + 1)) → get_or steps (f - 1) 0 ≡ span s f

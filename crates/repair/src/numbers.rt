@@ -1,8 +1,6 @@
 // How a plan is made, and the count of what it reads.
-ghost use Rattle.std.specs.Prelude.{◌≡◌, ℕ, ◌+◌, ◌<◌, ◌≤◌, cond, length, slice_index};
+ghost use Rattle.std.specs.Prelude.{◌≡◌, cond};
 ghost use Rattle.code.specs.Shapes.{parities_of, rows_of};
-ghost use Rattle.repair.specs.Halves.{first_half as is_first_half, depth as depth_of};
-ghost use Rattle.repair.specs.Steps.{step as step_of};
 ghost use Rattle.repair.specs.Lists.{formula};
 ghost use Rattle.repair.specs.Plans.{PlanOf};
 
@@ -10,33 +8,11 @@ use crate::plan::Plan;
 use code::Shape;
 use sums::ParityRule;
 
-// The number of a data column counted from the nearer end.
-fn depth(shape: Shape, lost: usize) -> usize
-    requires { (1 ≤ lost) × (lost ≤ shape.k) }
-    ensures { result ≡ depth_of shape lost }
-{
-    let other = shape.k + 1 - lost;
-    if lost <= other { lost } else { other }
-}
-
 // The parity that shifts each data column by one step.
 fn unit_parity(shape: Shape, first_half: bool) -> usize
     ensures { result ≡ cond first_half 2 (parities_of shape) }
 {
     if first_half { 2 } else { shape.parities() }
-}
-
-// How far a step shifts data column i + 1, at each i.
-fn steps(shape: Shape, lost: usize, first_half: bool) -> [usize; 12]
-    requires lost { (1 ≤ lost) × (lost ≤ shape.k) }
-    requires half { first_half ≡ is_first_half shape lost }
-    ensures twelve { length result ≡ 12 }
-    ensures are { (i : ℕ) → i < shape.k → slice_index result i ≡ step_of shape lost (i + 1) }
-{
-    match ParityRule::of(shape, unit_parity(shape, first_half)) {
-        Some(rule) => rule.shifts(),
-        None => [0; 12],
-    }
 }
 
 impl Plan {
@@ -48,13 +24,13 @@ impl Plan {
             return None;
         }
         let first_half = lost <= (shape.k + 1) / 2;
-        let steps = steps(shape, lost, first_half);
+        let steps = ParityRule::of(shape, unit_parity(shape, first_half))?.shifts();
         let span = steps[lost - 1];
         Some(Plan {
             shape,
             lost,
             first_half,
-            depth: depth(shape, lost),
+            depth: lost.min(shape.k + 1 - lost),
             span,
             round: shape.q * span,
             classes: shape.classes(),

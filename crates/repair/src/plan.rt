@@ -17,7 +17,7 @@ pub struct Plan {
     pub(crate) classes: usize,
     pub(crate) rows: usize,
     pub(crate) positions: usize,
-    // how far a step shifts data column i + 1
+    // how far a step shifts data column i + 1; no heap here: a shape has at most 12
     pub(crate) steps: [usize; 12],
     ghost is_data: { (1 ≤ lost) × (lost ≤ shape.k) },
     ghost first_half_is: { first_half ≡ is_first_half shape lost },

@@ -46,9 +46,6 @@ impl Plan {
         ensures { result ≡ symbol_of X.Symbol.zero X.Symbol.plus self.now.shape (area X.Symbol.zero self.now.shape self.now.lost work.now column) position }
     {
         let start = self.slot(column) * self.rows;
-        match symbol_from(work, start, self.shape.p - 1, self.classes, position) {
-            Some(symbol) => symbol,
-            None => X::zero(),
-        }
+        symbol_from(work, start, self.shape.p - 1, self.classes, position).unwrap()
     }
 }

@@ -1,10 +1,10 @@
 -- What a table means: its columns stand one after another in the lent memory.
-use Rattle.std.specs.Prelude.{◌≡◌, ℕ, ◌-◌, ◌*◌, false, cond, List, length, Some, None, Ok, Err, Option, Result, nat_lt, slice_index_or}
+use Rattle.std.specs.Prelude.{◌≡◌, ℕ, ◌-◌, ◌*◌, ◌<◌, ◌≤◌, ◌≢◌, false, cond, List, length, Some, None, Ok, Err, Option, Result, nat_lt, slice_index_or}
 use Rattle.code.specs.declared.refusal.Refusal.{Refusal}
 use Rattle.code.specs.declared.refusal.Refusal.TheVariants.{TableTooSmall}
 use Rattle.code.specs.declared.shape.Shape.{Shape}
 use Rattle.code.specs.Refusals.{refuse}
-use Rattle.code.specs.Places.{symbols_of}
+use Rattle.code.specs.Places.{place_of, symbols_of}
 use Rattle.code.specs.Shapes.{columns_of, rows_of}
 use Rattle.store.specs.View.{View, Column}
 use Rattle.store.specs.declared.table.Table.{Table}
@@ -18,6 +18,12 @@ table_view none t = record {
   meter = t.meter;
   lender = t.cells.ghost_name;
 }
+
+-- p is where the symbol at a column and a row of a table stands, apart from those at all other places
+abbrev pub PlaceIs : (columns rows size c r p : ℕ) → Type 0
+PlaceIs columns rows size c r p =
+    (1 ≤ c) × (c ≤ columns) × (r < rows) × (p ≡ place_of rows c r) × (p < size) ×
+    ((d s : ℕ) → 1 ≤ d → s < rows → ((d ≡ c) × (s ≡ r) → ⊥) → place_of rows d s ≢ p)
 
 -- how many symbols a shape needs
 abbrev pub needed_of : Shape → ℕ

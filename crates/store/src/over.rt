@@ -1,39 +1,18 @@
 // The table store: its check, its making, and its calls.
-ghost use Rattle.std.specs.Prelude.{◌≡◌, ℕ, ◌*◌, ◌<◌, ◌≤◌, ◌≢◌, length};
-ghost use Rattle.code.specs.Places.{place_of};
-ghost use Rattle.store.specs.Tables.{table_view, needed_of, Checked, Over};
+ghost use Rattle.std.specs.Prelude.{◌≡◌, ◌-◌, ◌<◌, ◌≤◌, MatchResult, length};
+ghost use Rattle.store.specs.Tables.{table_view, Checked, Over, PlaceIs};
 
 use crate::column::ColumnStore;
 use crate::table::Table;
 use code::{Refusal, Shape};
 use symbol::Symbol;
 
-// The symbols that a table of a shape needs.
-fn needed(shape: Shape) -> usize
-    ensures { result ≡ needed_of shape }
-{
-    shape.columns() * shape.rows()
-}
-
-// Where a symbol stands, apart from all others.
-fn place(column: usize, row: usize, columns: usize, rows: usize, size: usize) -> usize
-    requires first { 1 ≤ column }
-    requires last { column ≤ columns }
-    requires within { row < rows }
-    requires full { columns * rows ≤ size }
-    ensures is { result ≡ place_of rows column row }
-    ensures below { result < size }
-    ensures apart { (d s : ℕ) → 1 ≤ d → s < rows → ((d ≡ column) × (s ≡ row) → ⊥) → place_of rows d s ≢ result }
-{
-    (column - 1) * rows + row
-}
-
 impl<'a, X: Symbol> Table<'a, X> {
     // Whether the memory has room for the shape.
     pub fn check(shape: Shape, cells: &[X]) -> Result<(), Refusal>
         ensures { Checked shape (length cells.now) result }
     {
-        let needed = needed(shape);
+        let needed = shape.columns() * shape.rows();
         if cells.len() < needed {
             return Err(Refusal::TableTooSmall { needed });
         }
@@ -45,21 +24,39 @@ impl<'a, X: Symbol> Table<'a, X> {
         ensures memory { result.cells.now ≡ cells.old }
         ensures view { Over X.Symbol.zero shape cells.old cells.entry.ghost_name (table_view X.Symbol.zero result) }
     {
-        if cells.len() < needed(shape) {
-            return Table {
-                columns: 0,
-                rows: 0,
-                cells,
-                lost: [false; 19],
-                meter: 0,
-            };
-        }
+        let (columns, rows) = match Self::check(shape, cells) {
+            Ok(()) => (shape.columns(), shape.rows()),
+            Err(_) => (0, 0),
+        };
         Table {
-            columns: shape.columns(),
-            rows: shape.rows(),
+            columns,
+            rows,
             cells,
             lost: [false; 19],
             meter: 0,
+        }
+    }
+
+    // Where a column's mark stands.
+    fn mark(&self, column: usize) -> Result<usize, Refusal>
+        ensures { MatchResult result
+            (λ mark. (1 ≤ column) × (column ≤ self.now.columns) × (mark ≡ column - 1))
+            (λ e. ((1 ≤ column) × (column ≤ self.now.columns) → ⊥) × (e ≡ Refusal.NoSuchPlace column 0)) }
+    {
+        if column < 1 || column > self.columns {
+            return Err(Refusal::NoSuchPlace { column, row: 0 });
+        }
+        Ok(column - 1)
+    }
+
+    // Where a symbol stands, apart from all others.
+    fn place(&self, column: usize, row: usize) -> Result<usize, Refusal>
+        ensures { MatchResult result (PlaceIs self.now.columns self.now.rows (length self.now.cells.now) column row)
+            (λ e. ((1 ≤ column) × (column ≤ self.now.columns) × (row < self.now.rows) → ⊥) × (e ≡ Refusal.NoSuchPlace column row)) }
+    {
+        match self.mark(column) {
+            Ok(mark) if row < self.rows => Ok(mark * self.rows + row),
+            _ => Err(Refusal::NoSuchPlace { column, row }),
         }
     }
 }
@@ -82,46 +79,36 @@ impl<'a, X: Symbol> ColumnStore<X> for Table<'a, X> {
     }
 
     fn is_lost(&self, column: usize) -> bool {
-        if column < 1 || column > self.columns {
-            return true;
+        match self.mark(column) {
+            Ok(mark) => self.lost[mark],
+            Err(_) => true,
         }
-        self.lost[column - 1]
     }
 
     fn read(&mut self, column: usize, row: usize) -> Result<X, Refusal> {
-        if column < 1 || column > self.columns || row >= self.rows {
-            return Err(Refusal::NoSuchPlace { column, row });
-        }
-        if self.lost[column - 1] {
+        let place = self.place(column, row)?;
+        if self.is_lost(column) {
             return Err(Refusal::ColumnLost { column });
         }
-        let place = place(column, row, self.columns, self.rows, self.cells.len());
         self.meter = self.meter.wrapping_add(1);
         Ok(self.cells[place])
     }
 
     fn write(&mut self, column: usize, row: usize, symbol: X) -> Result<(), Refusal> {
-        if column < 1 || column > self.columns || row >= self.rows {
-            return Err(Refusal::NoSuchPlace { column, row });
-        }
-        let place = place(column, row, self.columns, self.rows, self.cells.len());
+        let place = self.place(column, row)?;
         self.cells[place] = symbol;
         Ok(())
     }
 
     fn drop_column(&mut self, column: usize) -> Result<(), Refusal> {
-        if column < 1 || column > self.columns {
-            return Err(Refusal::NoSuchPlace { column, row: 0 });
-        }
-        self.lost[column - 1] = true;
+        let mark = self.mark(column)?;
+        self.lost[mark] = true;
         Ok(())
     }
 
     fn admit(&mut self, column: usize) -> Result<(), Refusal> {
-        if column < 1 || column > self.columns {
-            return Err(Refusal::NoSuchPlace { column, row: 0 });
-        }
-        self.lost[column - 1] = false;
+        let mark = self.mark(column)?;
+        self.lost[mark] = false;
         Ok(())
     }
 }

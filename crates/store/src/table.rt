@@ -6,6 +6,7 @@ pub struct Table<'a, X> {
     pub(crate) columns: usize,
     pub(crate) rows: usize,
     pub(crate) cells: &'a mut [X],
+    // No heap here: a shape has at most 19 columns.
     pub(crate) lost: [bool; 19],
     pub(crate) meter: u64,
     ghost few: { columns ≤ 19 },

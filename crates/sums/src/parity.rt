@@ -9,30 +9,16 @@ ghost use Rattle.sums.specs.Sums.{RuleOf, sum_at};
 use crate::position::at;
 use crate::rule::ParityRule;
 use code::Shape;
+use std::array;
 use symbol::Symbol;
 
-fn shift(shape: Shape, parity: usize, column: usize) -> usize
-    requires parity { (1 ≤ parity) × (parity ≤ parities_of shape) }
-    requires column { (1 ≤ column) × (column ≤ shape.k) }
-    ensures { result ≡ shift_of shape parity column }
-{
-    match shape.shift(parity, column) {
-        Some(shift) => shift,
-        None => 0,
-    }
-}
-
-// The shifts of all data columns for a parity.
+// The shifts of all data columns for a parity; 0 where there is no such column.
 fn shifts(shape: Shape, parity: usize) -> [usize; 12]
     requires { (1 ≤ parity) × (parity ≤ parities_of shape) }
     ensures twelve { length result ≡ 12 }
     ensures are { (i : ℕ) → i < shape.k → slice_index result i ≡ shift_of shape parity (i + 1) }
 {
-    let mut shifts = [0; 12];
-    for i in 0..shape.k {
-        shifts[i] = shift(shape, parity, i + 1);
-    }
-    shifts
+    array::from_fn(|i| shape.shift(parity, i + 1).unwrap_or(0))
 }
 
 // The position from which a shift comes to `position`: a sum, and at most one turn of the ring back.
@@ -87,17 +73,6 @@ impl ParityRule {
         self.shifts
     }
 
-    // What data column i + 1 adds to the sum at a position.
-    fn term<X: Symbol>(&self, cells: &[X], i: usize, position: usize) -> X
-        requires room { self.now.shape.k * rows_of self.now.shape ≤ length cells.now }
-        requires column { i < self.now.shape.k }
-        requires position { position < positions_of self.now.shape }
-        ensures { result ≡ term_of X.Symbol.zero X.Symbol.plus self.now.shape (symbols_of X.Symbol.zero (rows_of self.now.shape) cells.now) self.now.parity position i }
-    {
-        let from = shifted(self.positions, self.shifts[i], position);
-        at(cells, i * self.rows, self.shape.p - 1, self.classes, from)
-    }
-
     // The parity at a position, from the data columns one after another; none if they are too few, or if the ring has
     // no such position.
     pub fn sum<X: Symbol>(&self, cells: &[X], position: usize) -> Option<X>
@@ -106,9 +81,12 @@ impl ParityRule {
         if cells.len() < self.shape.k * self.rows || position >= self.positions {
             return None;
         }
+        let columns = cells.chunks_exact(self.rows);
+        let shifts = &self.shifts[..self.shape.k];
         let mut sum = X::zero();
-        for i in 0..self.shape.k {
-            sum = sum.add(self.term(cells, i, position));
+        for (column, shift) in columns.zip(shifts) {
+            let from = shifted(self.positions, *shift, position);
+            sum = sum.add(at(column, self.classes, from));
         }
         Some(sum)
     }

@@ -1,5 +1,5 @@
 // The symbol at a position of a column.
-ghost use Rattle.std.specs.Prelude.{◌≡◌, suc, ◌+◌, ◌*◌, ◌<◌, ◌≤◌, length};
+ghost use Rattle.std.specs.Prelude.{◌≡◌, ℕ, ◌+◌, ◌*◌, ◌<◌, ◌≤◌, length};
 ghost use Rattle.ring.specs.Cyclic.{class_total, symbol_at};
 ghost use Rattle.code.specs.Places.{rows_from};
 ghost use Rattle.sums.specs.Sums.{symbol_in_column, symbol_in_cells};
@@ -7,36 +7,28 @@ ghost use Rattle.sums.specs.Sums.{symbol_in_column, symbol_in_cells};
 use code::Shape;
 use symbol::Symbol;
 
-// The sum of the rows of a class, in the column that begins at `start`.
-fn class_sum<X: Symbol>(cells: &[X], start: usize, blocks: usize, classes: usize, class: usize) -> X
-    requires room { start + blocks * classes ≤ length cells.now }
-    requires class { class < classes }
-    ensures { result ≡ class_total X.Symbol.zero X.Symbol.plus blocks classes (rows_from X.Symbol.zero cells.now start) class }
+// The sum of the rows of a class of a column: one row of each block.
+fn class_sum<X: Symbol>(column: &[X], classes: usize, class: usize) -> X
+    requires { class < classes }
+    ensures { (b : ℕ) → length column.now ≡ b * classes → result ≡ class_total X.Symbol.zero X.Symbol.plus b classes (rows_from X.Symbol.zero column.now 0) class }
 {
     let mut sum = X::zero();
-    for a in 0..blocks {
-        sum = sum.add(cells[start + (a * classes + class)]);
+    for block in column.chunks_exact(classes) {
+        sum = sum.add(block[class]);
     }
     sum
 }
 
-// The symbol at a position of the column that begins at `start`: a row, or past the rows an extra symbol.
-pub(crate) fn at<X: Symbol>(
-    cells: &[X],
-    start: usize,
-    blocks: usize,
-    classes: usize,
-    position: usize,
-) -> X
-    requires room { start + blocks * classes ≤ length cells.now }
-    requires position { position < suc blocks * classes }
-    ensures { result ≡ symbol_at X.Symbol.zero X.Symbol.plus blocks classes (rows_from X.Symbol.zero cells.now start) position }
+// The symbol at a position of a column: a row, or past the rows an extra symbol.
+pub(crate) fn at<X: Symbol>(column: &[X], classes: usize, position: usize) -> X
+    requires { position < length column.now + classes }
+    ensures { (b : ℕ) → length column.now ≡ b * classes → result ≡ symbol_at X.Symbol.zero X.Symbol.plus b classes (rows_from X.Symbol.zero column.now 0) position }
 {
-    let rows = blocks * classes;
+    let rows = column.len();
     if position < rows {
-        cells[start + position]
+        column[position]
     } else {
-        class_sum(cells, start, blocks, classes, position - rows)
+        class_sum(column, classes, position - rows)
     }
 }
 
@@ -48,7 +40,7 @@ pub fn symbol_at<X: Symbol>(shape: Shape, column: &[X], position: usize) -> Opti
     if column.len() != shape.rows() || position >= shape.positions() {
         return None;
     }
-    Some(at(column, 0, shape.p - 1, shape.classes(), position))
+    Some(at(column, shape.classes(), position))
 }
 
 // The symbol at a position of the column of `blocks` times `classes` rows that begins at `start`; none if the cells do not
@@ -64,8 +56,8 @@ pub fn symbol_from<X: Symbol>(
 {
     let rows = blocks.checked_mul(classes)?;
     let end = start.checked_add(rows)?;
-    if end > cells.len() || (position >= rows && position - rows >= classes) {
+    if end > cells.len() || position.saturating_sub(rows) >= classes {
         return None;
     }
-    Some(at(cells, start, blocks, classes, position))
+    Some(at(&cells[start..end], classes, position))
 }

@@ -11,6 +11,7 @@ pub struct ParityRule {
     pub(crate) classes: usize,
     pub(crate) rows: usize,
     pub(crate) positions: usize,
+    // No heap here: a shape has at most 12 data columns.
     pub(crate) shifts: [usize; 12],
     ghost is_parity: { (1 ≤ parity) × (parity ≤ parities_of shape) },
     ghost classes_are: { classes ≡ classes_of shape },

@@ -1,10 +1,13 @@
-use Rattle.std.proofs.Common.{◌<◌, ◌≢◌, length, arith, get_or-set_other, get_or-set_same, rules, below_more}
+use Rattle.std.proofs.Common.{◌≡◌, ◌+◌, true, cond, Some, None, unwrap_or, ◌∙◌, arith, rules}
+use Rattle.std.proofs.lemmas.Bool.Decides.{nat_tests}
+use Rattle.code.specs.Shapes.{shift_of, is_shifted}
+use Rattle.sums.proofs.Steps.{made}
 use Rattle.sums.proofs.parity.shifts.Goals as goal
 
-pub loop-i-preserved : goal.loop-i-preserved
-loop-i-preserved c = (
-  search rules,
-  below_more _ _
-      (λ i h. let ne : i ≢ c.loop-i.i = omega arith in rw get_or-set_other (c.loop-i.invariant.1 i h))
-      (let lt : c.loop-i.i < length c.loop-i.shifts = omega (arith, c.loop-i.invariant.0) in rw get_or-set_same c.shift.ensures),
-)
+pub returns-clause-are : goal.returns-clause-are
+returns-clause-are c =
+    let s = c.args.shape in
+    let j = c.args.parity in
+    λ i h.
+    made _ _ (λ i x. x ≡ unwrap_or (cond (is_shifted s j (i + 1)) (Some (shift_of s j (i + 1))) None) 0) (λ i y q k. (search rules, search rules)) c.from_fn.result 0 12 c.from_fn.ensures.items.each i (omega arith) (omega (arith, s.data_columns)) 0
+    ∙ (let b : is_shifted s j (i + 1) ≡ true = grind (arith, nat_tests) in rw b)

@@ -12,6 +12,6 @@ returns g c = (
     meter = search rules;
     lender = search rules;
     here = search rules;
-    others = λ d s inside apart. let ne = c.place-place.ensures.apart d s inside.0 inside.2 apart in search (rules, get_or-set_other);
+    others = λ d s inside apart. let ne = c.in_ok-place.ensures.5 d s inside.0 inside.2 apart in search (rules, get_or-set_other);
   },
 )
