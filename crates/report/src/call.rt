@@ -1,10 +1,9 @@
 // The whole call: the head, the shape, the text, and what the array of the text comes to.
 ghost use Rattle.std.specs.Prelude.{◌≡◌, IfOk, None, string_bytes};
-ghost use Rattle.std.specs.Result.{MatchResult};
 ghost use Rattle.code.specs.Shapes.{columns_of, rows_of};
 ghost use Rattle.frames.specs.Checks.{text_refusal, Told};
 ghost use Rattle.report.specs.Printed.{marks, symbols, told, frames_refusal, answer as answer_of, printed};
-ghost use Rattle.report.specs.Stops.{Stops};
+ghost use Rattle.report.specs.Prints.{Prints};
 
 use crate::failure::Failure;
 use crate::heads::head;
@@ -31,7 +30,7 @@ fn check_frames(shape: Shape, text: &[u8]) -> Result<(), Refusal>
 // What is printed of a text that passed the check. The rebuild writes into the text.
 fn restore(heap: Global, shape: Shape, text: &mut [u8]) -> Result<String, Failure>
     requires { text_refusal (columns_of shape) (rows_of shape) 1 text.old ≡ None }
-    ensures { MatchResult result (λ out. string_bytes out ≡ told shape (marks shape text.old) (symbols shape text.old)) (Stops (told shape (marks shape text.old) (symbols shape text.old))) }
+    ensures { Prints string_bytes (told shape (marks shape text.old) (symbols shape text.old)) result }
 {
     let mut store: Frames<Byte> = Frames::over(shape, text);
     let array = Array::open(shape, &store);
@@ -40,7 +39,7 @@ fn restore(heap: Global, shape: Shape, text: &mut [u8]) -> Result<String, Failur
 
 // What is printed of frames of a shape. The frames are copied, and the input stays as it is.
 fn answer(heap: Global, shape: Shape, text: &[u8]) -> Result<String, Failure>
-    ensures { MatchResult result (λ out. string_bytes out ≡ answer_of shape text.now) (Stops (answer_of shape text.now)) }
+    ensures { Prints string_bytes (answer_of shape text.now) result }
 {
     check_frames(shape, text)?;
     let mut copy = text.to_vec(heap)?;
@@ -49,7 +48,7 @@ fn answer(heap: Global, shape: Shape, text: &[u8]) -> Result<String, Failure>
 
 // What is printed of an input, if neither it nor its array is refused.
 fn rebuilt(heap: Global, input: &[u8]) -> Result<String, Failure>
-    ensures { MatchResult result (λ out. string_bytes out ≡ printed input.now) (Stops (printed input.now)) }
+    ensures { Prints string_bytes (printed input.now) result }
 {
     let head = head(input).ok_or(Refusal::BadFrame { line: 0 })?;
     let shape = Shape::new(head.k, head.q, head.p)?;

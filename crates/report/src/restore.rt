@@ -1,13 +1,12 @@
 // Bringing the lowest lost column of an array back, and the lines that tell of it.
 ghost use Rattle.std.specs.Prelude.{◌≡◌, ◌<◌, ◌≤◌, true, false, ◌++◌, length, IfOk, Some, None, OnOk, string_bytes};
-ghost use Rattle.std.specs.Result.{MatchResult};
 ghost use Rattle.symbol.specs.Bytes.{byte, byte_plus};
 ghost use Rattle.frames.specs.Format.{lines};
 ghost use Rattle.store.specs.View.{Inside, metered};
 ghost use Rattle.array.specs.Checks.{fits};
 ghost use Rattle.recovery.specs.Rebuild.{count_of, quote_refusal, rebuild_refusal, Rebuilt};
 ghost use Rattle.report.specs.Printed.{present as present_of, restored, told};
-ghost use Rattle.report.specs.Stops.{Stops};
+ghost use Rattle.report.specs.Prints.{Prints};
 
 use crate::failure::Failure;
 use crate::lines::{put_frame, put_summary};
@@ -81,7 +80,7 @@ pub(crate) fn tell<S: ColumnStore<Byte>>(
     store: &mut S,
 ) -> Result<String, Failure>
     requires { fits array.now.shape (S.ColumnStore.view store.old) ≡ true }
-    ensures { MatchResult result (λ out. string_bytes out ≡ told array.now.shape (S.ColumnStore.view store.old).lost (S.ColumnStore.view store.old).at) (Stops (told array.now.shape (S.ColumnStore.view store.old).lost (S.ColumnStore.view store.old).at)) }
+    ensures { Prints string_bytes (told array.now.shape (S.ColumnStore.view store.old).lost (S.ColumnStore.view store.old).at) result }
 {
     let Some(column) = lost_column(store) else {
         let mut out = String::new(heap);
