@@ -1,6 +1,5 @@
 -- What the checks of an accepted rebuild say.
-use Rattle.std.proofs.Common.{◌≡◌, ℕ, ◌+◌, ◌-◌, ◌<◌, ◌≤◌, Bool, true, false, not, ◌&&◌, ◌||◌, ltb, Some, None, Ok, Err, Option, Result, sym, ap, ◌∙◌, arith}
-use Rattle.std.specs.Option.{MatchOption}
+use Rattle.std.proofs.Common.{◌≡◌, ℕ, ◌≤◌, Bool, true, false, not, ◌&&◌, ◌||◌, ltb, None, Ok, Err, Result, ◌∙◌, arith}
 use Rattle.std.proofs.lemmas.Bool.{eq-eqb, le-ltb}
 use Rattle.std.proofs.lemmas.Bool.Decides.{nat_tests}
 use Rattle.code.specs.declared.refusal.Refusal.{Refusal}
@@ -10,8 +9,7 @@ use Rattle.store.specs.View.{View, counts_as_lost}
 use Rattle.repair.specs.Lists.{helper}
 use Rattle.array.specs.Checks.{fits, work_of, room_refusal, Roomy}
 use Rattle.array.proofs.Checked.{roomy, is_present, passed, is_so, none_told}
-use Rattle.array.specs.Lost.{lowest_lost}
-use Rattle.array.proofs.Lowest.{both_none, none_lost, all_present, lowest_here}
+use Rattle.array.proofs.Lowest.{both_none, none_lost}
 use Rattle.columns.specs.Columns.{found_refusal}
 use Rattle.recovery.specs.Rebuild.{is_data, count_of, lost_helper, lose_refusal, quote_refusal, rebuild_refusal, Allowed}
 
@@ -60,12 +58,3 @@ to_room s g f count room quoted same = rw (quoted, eq-eqb count (count_of s f) s
 pub allowed : {X U : Type 0} (s : Shape) (g : View X) (f count room : ℕ) (r : Result U Refusal) → rebuild_refusal s g f count room ≡ room_refusal s room → Roomy s room r → Allowed s g f count room r
 allowed s g f count room (Ok u) e h = e ∙ h
 allowed s g f count room (Err x) e h = e ∙ h
-
--- what `find` says of a test of the columns 1 to n
-pub lowest_found :
-    (test : ℕ → Bool) (n m : ℕ) → m ≡ n → (r : Option ℕ) →
-    MatchOption r ((k : ℕ) → 1 ≤ k → k < m + 1 → test k ≡ false) (λ i. (1 ≤ i) × (i < m + 1) × (test i ≡ true) × ((k : ℕ) → 1 ≤ k → k < i → test k ≡ false)) → r ≡ lowest_lost test n
-lowest_found test n m same None none = sym (all_present test n (λ c one last. none c one (omega arith)))
-lowest_found test n m same (Some i) (one, last, is-it, below) =
-    let at : i - 1 + 1 ≡ i = omega arith in
-    ap Some (sym at) ∙ sym (lowest_here test (i - 1) n (omega arith) (all_present test (i - 1) (λ c low high. below c low (omega arith))) (ap test at ∙ is-it))

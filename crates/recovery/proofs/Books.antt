@@ -58,7 +58,7 @@ module _ {X : Type 0} (none : X) (plus : X → X → X) (s : Shape) where
           let (inside, present) = on_list_present f g room a c row on in
           A.symbols T e c row inside present)
 
-lowest_same : (P Q : ℕ → Bool) (n : ℕ) → ((c : ℕ) → 1 ≤ c → c ≤ n → P c ≡ Q c) → lowest_lost P n ≡ lowest_lost Q n
+pub lowest_same : (P Q : ℕ → Bool) (n : ℕ) → ((c : ℕ) → 1 ≤ c → c ≤ n → P c ≡ Q c) → lowest_lost P n ≡ lowest_lost Q n
 lowest_same P Q zero same = refl
 lowest_same P Q (suc n) same = ap₂ (λ o b. or_else o (cond b (Some (n + 1)) None)) (lowest_same P Q n (λ c one last. same c one (omega arith))) (same (n + 1) (omega arith) (omega arith))
 

@@ -29,10 +29,11 @@ fn fetch<X: Symbol, S: ColumnStore<X>>(
 {
     let mut count = 0;
     for (row, cell) in part.iter_mut().enumerate() {
-        if plan.listed(column, row) {
-            *cell = read(store, column, row)?;
-            count += 1;
+        if !plan.listed(column, row) {
+            continue;
         }
+        *cell = read(store, column, row)?;
+        count += 1;
     }
     Ok(count)
 }

@@ -11,12 +11,9 @@ use Rattle.repair.specs.Lists.{helper}
 use Rattle.array.specs.Checks.{fits}
 use Rattle.array.specs.Lost.{lowest_lost, lost_refusal}
 use Rattle.array.proofs.Checked.{wide}
+use Rattle.recovery.proofs.Books.{lowest_same}
 use Rattle.recovery.specs.Rebuild.{is_data, lost_helper, quote_refusal}
 use Rattle.report.specs.Printed.{lowest, lost_helper_of, restored, refused, told}
-
-lowest_same : (a b : ℕ → Bool) (n : ℕ) → ((c : ℕ) → 1 ≤ c → c ≤ n → a c ≡ b c) → lowest_lost a n ≡ lowest_lost b n
-lowest_same a b zero h = refl
-lowest_same a b (suc n) h = ap₂ (λ x y. or_else x (cond y (Some (n + 1)) None)) (lowest_same a b n (λ c one last. h c one (omega arith))) (h (n + 1) (omega arith) (omega arith))
 
 -- the column that is named is lost, and one of them
 pub record Named (lost : ℕ → Bool) (n f : ℕ) : Type 0 where

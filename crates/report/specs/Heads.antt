@@ -8,9 +8,13 @@ use Rattle.report.specs.declared.head.Head.{Head}
 abbrev pub is_ruled : List ℕ → Bool
 is_ruled input = slice_index input 0 == 72 && (slice_index input 1 == 32 && (slice_index input 4 == 32 && (slice_index input 7 == 32 && slice_index input 10 == 10)))
 
--- the number of the two digits from place a on, if there are digits
-unfoldable pub number_at : List ℕ → ℕ → Option ℕ
-number_at input a = cond (is_hex 2 (part input a 2)) (Some (slice_index (unhex (part input a 2)) 0)) None
+-- the number of two digits, if they are digits
+unfoldable pub number_in : List ℕ → Option ℕ
+number_in digits = cond (is_hex 2 digits) (Some (slice_index (unhex digits) 0)) None
+
+-- the number of the two digits from place a on
+abbrev pub number_at : List ℕ → ℕ → Option ℕ
+number_at input a = number_in (part input a 2)
 
 -- k, q and p, if there are all three
 abbrev pub all_three : Option ℕ → Option ℕ → Option ℕ → Option Head

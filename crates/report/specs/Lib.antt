@@ -1,3 +1,4 @@
 pub mod Given
 pub mod Heads
 pub mod Printed
+pub mod Prints

@@ -1,9 +1,11 @@
 // The whole call: the head, the shape, the text, and what the array of the text comes to.
-ghost use Rattle.std.specs.Prelude.{◌≡◌, IfOk, None};
+ghost use Rattle.std.specs.Prelude.{◌≡◌, IfOk, None, string_bytes};
 ghost use Rattle.code.specs.Shapes.{columns_of, rows_of};
 ghost use Rattle.frames.specs.Checks.{text_refusal, Told};
 ghost use Rattle.report.specs.Printed.{marks, symbols, told, frames_refusal, answer as answer_of, printed};
+ghost use Rattle.report.specs.Prints.{Prints};
 
+use crate::failure::Failure;
 use crate::heads::head;
 use crate::lines::refused;
 use crate::restore::tell;
@@ -26,9 +28,9 @@ fn check_frames(shape: Shape, text: &[u8]) -> Result<(), Refusal>
 }
 
 // What is printed of a text that passed the check. The rebuild writes into the text.
-fn restore(heap: Global, shape: Shape, text: &mut [u8]) -> Result<Vec<u8>, AllocError>
+fn restore(heap: Global, shape: Shape, text: &mut [u8]) -> Result<String, Failure>
     requires { text_refusal (columns_of shape) (rows_of shape) 1 text.old ≡ None }
-    ensures { IfOk result (λ v. v.items ≡ told shape (marks shape text.old) (symbols shape text.old)) }
+    ensures { Prints string_bytes (told shape (marks shape text.old) (symbols shape text.old)) result }
 {
     let mut store: Frames<Byte> = Frames::over(shape, text);
     let array = Array::open(shape, &store);
@@ -36,26 +38,31 @@ fn restore(heap: Global, shape: Shape, text: &mut [u8]) -> Result<Vec<u8>, Alloc
 }
 
 // What is printed of frames of a shape. The frames are copied, and the input stays as it is.
-fn answer(heap: Global, shape: Shape, text: &[u8]) -> Result<Vec<u8>, AllocError>
-    ensures { IfOk result (λ v. v.items ≡ answer_of shape text.now) }
+fn answer(heap: Global, shape: Shape, text: &[u8]) -> Result<String, Failure>
+    ensures { Prints string_bytes (answer_of shape text.now) result }
 {
-    if let Err(refusal) = check_frames(shape, text) {
-        return refused(heap, refusal);
-    }
-    let mut copy = Vec::new(heap);
-    copy.extend_from_slice(text)?;
+    check_frames(shape, text)?;
+    let mut copy = text.to_vec(heap)?;
     restore(heap, shape, &mut copy)
+}
+
+// What is printed of an input, if neither it nor its array is refused.
+fn rebuilt(heap: Global, input: &[u8]) -> Result<String, Failure>
+    ensures { Prints string_bytes (printed input.now) result }
+{
+    let head = head(input).ok_or(Refusal::BadFrame { line: 0 })?;
+    let shape = Shape::new(head.k, head.q, head.p)?;
+    answer(heap, shape, &input[11..])
 }
 
 // What the program prints of an input: if the memory suffices, exactly the bytes that `printed` says.
 pub fn report(heap: Global, input: &[u8]) -> Result<Vec<u8>, AllocError>
     ensures { IfOk result (λ v. v.items ≡ printed input.now) }
 {
-    let Some(head) = head(input) else {
-        return refused(heap, Refusal::BadFrame { line: 0 });
+    let out = match rebuilt(heap, input) {
+        Ok(out) => out,
+        Err(Failure::Refused(refusal)) => refused(heap, refusal)?,
+        Err(Failure::NoMemory(e)) => return Err(e),
     };
-    match Shape::new(head.k, head.q, head.p) {
-        Ok(shape) => answer(heap, shape, &input[11..input.len()]),
-        Err(refusal) => refused(heap, refusal),
-    }
+    Ok(out.into_bytes())
 }

@@ -2,6 +2,7 @@
 #![tactic(auto)]
 
 mod call;
+mod failure;
 mod head;
 mod heads;
 mod lines;

@@ -1,59 +1,37 @@
 // The lines that are printed.
-ghost use Rattle.std.specs.Prelude.{◌≡◌, ◌<◌, ◌++◌, IfOk, OnOk};
+ghost use Rattle.std.specs.Prelude.{◌≡◌, ◌<◌, ◌++◌, IfOk, OnOk, string_bytes};
 ghost use Rattle.report.specs.Printed.{present as present_of, summary as summary_of, refused as refused_of};
 
 use code::Refusal;
-use frames::digits;
 use std::alloc::{AllocError, Global};
 use symbol::Byte;
 
 // Adds the frame of a byte in a present column.
 pub(crate) fn put_frame(
-    out: &mut Vec<u8>,
+    out: &mut String,
     column: usize,
     row: usize,
     symbol: Byte,
 ) -> Result<(), AllocError>
     requires column { column < 256 }
     requires row { row < 65536 }
-    ensures { OnOk result (out.new.items ≡ out.old.items ++ present_of column row symbol) }
+    ensures { OnOk result (string_bytes out.new ≡ string_bytes out.old ++ present_of column row symbol) }
 {
-    let [a, b] = digits(column as u8);
-    let [c, d] = digits((row / 256) as u8);
-    let [e, f] = digits((row % 256) as u8);
-    let [g, h] = digits(symbol.value);
-    out.extend_from_slice(&[b'P', b' ', a, b, b' ', c, d, e, f, b' ', g, h, b'\n'])?;
-    Ok(())
+    writeln!(out, "P {column:02X} {row:04X} {:02X}", symbol.value)
 }
 
 // Adds the last line.
-pub(crate) fn put_summary(out: &mut Vec<u8>, column: usize, count: usize) -> Result<(), AllocError>
+pub(crate) fn put_summary(out: &mut String, column: usize, count: usize) -> Result<(), AllocError>
     requires column { column < 256 }
     requires count { count < 65536 }
-    ensures { OnOk result (out.new.items ≡ out.old.items ++ summary_of column count) }
+    ensures { OnOk result (string_bytes out.new ≡ string_bytes out.old ++ summary_of column count) }
 {
-    let [a, b] = digits(column as u8);
-    let [c, d] = digits((count / 256) as u8);
-    let [e, f] = digits((count % 256) as u8);
-    out.extend_from_slice(&[b'R', b' ', a, b, b' ', c, d, e, f, b'\n'])?;
-    Ok(())
+    writeln!(out, "R {column:02X} {count:04X}")
 }
 
 // The line of a refusal.
-pub(crate) fn refused(heap: Global, refusal: Refusal) -> Result<Vec<u8>, AllocError>
-    ensures { IfOk result (λ v. v.items ≡ refused_of refusal) }
+pub(crate) fn refused(heap: Global, refusal: Refusal) -> Result<String, AllocError>
+    ensures { IfOk result (λ out. string_bytes out ≡ refused_of refusal) }
 {
-    let [a, b] = digits(refusal.number());
-    let mut out = Vec::new(heap);
-    out.extend_from_slice(&[b'E', b' ', a, b, b'\n'])?;
-    Ok(out)
-}
-
-// The line that says that no column is lost.
-pub(crate) fn none_lost(heap: Global) -> Result<Vec<u8>, AllocError>
-    ensures { IfOk result (λ v. v.items ≡ summary_of 0 0) }
-{
-    let mut out = Vec::new(heap);
-    put_summary(&mut out, 0, 0)?;
-    Ok(out)
+    format!(in heap; "E {:02X}\n", refusal.number())
 }

@@ -1,4 +1,4 @@
-use Rattle.std.proofs.Common.{◌≡◌, ℕ, Bool, ◌++◌, vec_items, ap, ◌∙◌, arith}
+use Rattle.std.proofs.Common.{◌≡◌, ℕ, Bool, ◌++◌, string_bytes, ap, ◌∙◌, arith}
 use Rattle.symbol.specs.declared.byte.Byte.{Byte}
 use Rattle.frames.specs.Format.{lines}
 use Rattle.report.specs.Printed.{present}
@@ -21,7 +21,7 @@ loop-row-preserved g c =
     let i = c.loop-row.row in
     let same = c.loop-row.invariant.1 in
     let here = c.symbol-symbol.ensures.is ∙ ap (λ (at : ℕ → ℕ → Byte). at f i) same.at in (
-      lines_more (λ r. present f r ((v c.args.store.now).at f r)) (vec_items c.args.out.now) (vec_items c.loop-row.out) (vec_items c.put_frame.new.out) i c.loop-row.invariant.0 (c.in_ok-put_frame.ensures ∙ ap (λ x. vec_items c.loop-row.out ++ present f i x) here),
+      lines_more (λ r. present f r ((v c.args.store.now).at f r)) (string_bytes c.args.out.now) (string_bytes c.loop-row.out) (string_bytes c.put_frame.new.out) i c.loop-row.invariant.0 (c.in_ok-put_frame.ensures ∙ ap (λ x. string_bytes c.loop-row.out ++ present f i x) here),
       read_more (v c.args.store.now) (v c.loop-row.store) (v c.symbol-symbol.new.store) same c.symbol-symbol.ensures.view,
     )
 
@@ -29,5 +29,5 @@ pub returns : goal.returns
 returns g c =
     let v = g.S.ColumnStore.view in
     let f = c.args.column in
-    let e : c.loop-row.row ≡ c.args.rows = omega arith in
-    c.loop-row.invariant.0 ∙ ap (λ n. vec_items c.args.out.now ++ lines n (λ r. present f r ((v c.args.store.now).at f r))) e
+    let e : c.loop-row.row ≡ (v c.args.store.now).rows = omega arith in
+    c.loop-row.invariant.0 ∙ ap (λ n. string_bytes c.args.out.now ++ lines n (λ r. present f r ((v c.args.store.now).at f r))) e

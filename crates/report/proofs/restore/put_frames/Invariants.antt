@@ -1,4 +1,4 @@
-use Rattle.std.proofs.Common.{◌≡◌, ◌++◌, vec_items}
+use Rattle.std.proofs.Common.{◌≡◌, ◌++◌, string_bytes}
 use Rattle.frames.specs.Format.{lines}
 use Rattle.report.specs.Printed.{present}
 use Rattle.report.proofs.Kept.{Same}
@@ -7,5 +7,5 @@ use Rattle.report.proofs.restore.put_frames.Given as goal
 abbrev pub invariant-loop-row : goal.invariant-loop-row
 invariant-loop-row g l =
     let v = g.S.ColumnStore.view in
-    (vec_items l.out ≡ vec_items l.initial.out ++ lines l.row (λ row. present l.column row ((v l.initial.store).at l.column row))) ×
+    (string_bytes l.out ≡ string_bytes l.initial.out ++ lines l.row (λ row. present l.column row ((v l.initial.store).at l.column row))) ×
     Same (v l.initial.store) (v l.store)
