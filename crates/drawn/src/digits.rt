@@ -2,6 +2,7 @@
 use std::fmt;
 use symbol::Symbol;
 
+#[derive(Clone, Copy)]
 pub struct Digits<X>(pub X);
 
 impl<X: Symbol> fmt::Display for Digits<X> {

@@ -27,9 +27,7 @@ fn spoilt_symbols(rt: HostRuntime) -> Result<(), Fail> {
     assert!(rt; audit(&array, &mut table, &mut work) == Ok(true));
     table.write(7, 0, Byte { value: 1 })?;
     assert!(rt; audit(&array, &mut table, &mut work) == Ok(false));
-    for cell in work.iter() {
-        assert!(rt; cell.value == 0);
-    }
+    assert_eq!(rt; work, [Byte::zero(); 40]);
     Ok(())
 }
 

@@ -15,24 +15,20 @@ fn two_symbols(rt: HostRuntime) -> Result<(), Fail> {
     cells[0] = Byte { value: 0x5A };
     cells[13] = Byte { value: 0x3C };
     assert_eq!(rt; found_in(shape, &mut cells, &mut work)?, 32);
-    let mut expected = [0u8; 60];
-    expected[0] = 0x5A;
-    expected[13] = 0x3C;
+    let mut expected = [Byte::zero(); 60];
+    expected[0] = Byte { value: 0x5A };
+    expected[13] = Byte { value: 0x3C };
     // parity 1, rows 0 and 5
-    expected[32] = 0x5A;
-    expected[37] = 0x3C;
+    expected[32] = Byte { value: 0x5A };
+    expected[37] = Byte { value: 0x3C };
     // parity 2, rows 1 and 7
-    expected[41] = 0x5A;
-    expected[47] = 0x3C;
+    expected[41] = Byte { value: 0x5A };
+    expected[47] = Byte { value: 0x3C };
     // parity 3, rows 0 and 1: the second comes from the extra symbol
-    expected[48] = 0x5A;
-    expected[49] = 0x3C;
-    for (cell, wanted) in cells.iter().zip(expected.iter()) {
-        assert!(rt; cell.value == *wanted);
-    }
-    for cell in work.iter() {
-        assert!(rt; cell.value == 0);
-    }
+    expected[48] = Byte { value: 0x5A };
+    expected[49] = Byte { value: 0x3C };
+    assert_eq!(rt; cells, expected);
+    assert_eq!(rt; work, [Byte::zero(); 40]);
     Ok(())
 }
 
@@ -73,7 +69,6 @@ fn lost_parity(rt: HostRuntime) -> Result<(), Fail> {
     let array = Array::open(shape, &table);
     assert_eq!(rt; found(&array, &mut table, &mut work)?, 32);
     assert!(rt; table.meter() == 32 && !table.is_lost(6));
-    let symbol = table.read(6, 2)?;
-    assert!(rt; symbol.stock == 3 && symbol.cash == 9);
+    assert_eq!(rt; table.read(6, 2)?, Stand { stock: 3, cash: 9 });
     Ok(())
 }

@@ -4,6 +4,8 @@
 #[cfg(test)]
 mod auditing;
 #[cfg(test)]
+mod drawn_arrays;
+#[cfg(test)]
 mod foundings;
 #[cfg(test)]
 mod kinds;
@@ -13,6 +15,8 @@ mod parities_at;
 mod rebuilding;
 #[cfg(test)]
 mod reports;
+#[cfg(test)]
+mod routes;
 #[cfg(test)]
 mod running;
 #[cfg(test)]

@@ -1,24 +1,24 @@
 // Examples of what the program prints, over the shape 4, 2, 3: 7 columns of 8 rows.
+use code::Shape;
+use drawn::text_of;
 use report::report;
 use std::alloc::Global;
 use std::process::Abort;
 use std::test::Fail;
+use symbol::Byte;
 
 // A head, and frames of which all symbols are 00 and the first columns are lost.
-fn fill(input: &mut [u8], lost: usize) {
-    if input.len() != 739 {
-        return;
-    }
-    input[0..11].copy_from_slice(b"H 04 02 03\n");
-    for line in 0..56 {
-        let at = 11 + line * 13;
-        input[at..at + 13].copy_from_slice(b"P 00 0000 00\n");
-        input[at + 3] = b'1' + (line / 8) as u8;
-        input[at + 8] = b'0' + (line % 8) as u8;
-        if line / 8 < lost {
-            input[at] = b'L';
+fn input(heap: Global, lost: usize) -> Result<Vec<u8>, Fail> {
+    let mut text = text_of::<Byte>(heap, Shape::new(4, 2, 3)?, &[])?;
+    for frame in text.chunks_mut(13).take(lost.saturating_mul(8)) {
+        if let Some(mark) = frame.first_mut() {
+            *mark = b'L';
         }
     }
+    let mut input = Vec::new(heap);
+    input.extend_from_slice(b"H 04 02 03\n")?;
+    input.extend_from_slice(&text)?;
+    Ok(input)
 }
 
 // Whether that is printed of an input.
@@ -31,18 +31,14 @@ fn prints(rt: &impl Abort, heap: Global, input: &[u8], out: &[u8]) -> Result<(),
 #[test]
 fn tells_what_is_lost(rt: HostRuntime) -> Result<(), Fail> {
     let heap = rt.alloc();
-    let mut input = [0u8; 739];
-    fill(&mut input, 0);
-    prints(&rt, heap, &input, b"R 00 0000\n")?;
-    fill(&mut input, 1);
+    prints(&rt, heap, &input(heap, 0)?, b"R 00 0000\n")?;
     prints(
         &rt,
         heap,
-        &input,
+        &input(heap, 1)?,
         b"P 01 0000 00\nP 01 0001 00\nP 01 0002 00\nP 01 0003 00\nP 01 0004 00\nP 01 0005 00\nP 01 0006 00\nP 01 0007 00\nR 01 0014\n",
     )?;
-    fill(&mut input, 2);
-    prints(&rt, heap, &input, b"E 0B\n")
+    prints(&rt, heap, &input(heap, 2)?, b"E 0B\n")
 }
 
 #[test]
@@ -61,9 +57,9 @@ fn refuses_heads_and_shapes(rt: HostRuntime) -> Result<(), Fail> {
 #[test]
 fn refuses_texts(rt: HostRuntime) -> Result<(), Fail> {
     let heap = rt.alloc();
-    let mut input = [0u8; 739];
-    fill(&mut input, 0);
-    prints(&rt, heap, &input[0..738], b"E 07\n")?;
+    let mut input = input(heap, 0)?;
+    assert_eq!(rt; input.len(), 739);
+    prints(&rt, heap, &input[..738], b"E 07\n")?;
     input[11 + 13] = b'L';
     prints(&rt, heap, &input, b"E 09\n")?;
     input[11 + 10] = b'f';
@@ -76,7 +72,7 @@ fn refuses_long_texts(rt: HostRuntime) -> Result<(), Fail> {
     let heap = rt.alloc();
     let mut input = Vec::new(heap);
     input.extend_from_slice(b"H 04 04 1D\n")?;
-    for line in 0..4928 {
+    for _ in 0..4928 {
         input.extend_from_slice(b"P 00 0000 00\n")?;
     }
     prints(&rt, heap, &input, b"E 07\n")

@@ -1,28 +1,17 @@
 // Examples over a text of bytes for the shape 4, 2, 3: 7 columns of 8 rows, 13 bytes a line.
 use code::{Refusal, Shape};
+use drawn::text_of;
 use frames::{Frames, check as check_text, column_part};
 use std::test::Fail;
 use store::ColumnStore;
 use symbol::Byte;
 
-// All symbols 00 and all columns present.
-fn fill(text: &mut [u8]) {
-    if text.len() != 728 {
-        return;
-    }
-    for line in 0..56 {
-        let at = line * 13;
-        text[at..at + 13].copy_from_slice(b"P 00 0000 00\n");
-        text[at + 3] = b'1' + (line / 8) as u8;
-        text[at + 8] = b'0' + (line % 8) as u8;
-    }
-}
-
 #[test]
 fn passes(rt: HostRuntime) -> Result<(), Fail> {
     let shape = Shape::new(4, 2, 3)?;
-    let mut text = [0u8; 728];
-    fill(&mut text);
+    // All symbols 00 and all columns present.
+    let text = text_of::<Byte>(rt.alloc(), shape, &[])?;
+    assert_eq!(rt; text.len(), 728);
     assert_eq!(rt; check_text::<Byte>(shape, &text), Ok(()));
     Ok(())
 }
@@ -41,8 +30,9 @@ fn refuses_length(rt: HostRuntime) -> Result<(), Fail> {
 #[test]
 fn names_the_lowest_line(rt: HostRuntime) -> Result<(), Fail> {
     let shape = Shape::new(4, 2, 3)?;
-    let mut text = [0u8; 728];
-    fill(&mut text);
+    // All symbols 00 and all columns present.
+    let mut text = text_of::<Byte>(rt.alloc(), shape, &[])?;
+    assert_eq!(rt; text.len(), 728);
     text[13 * 9] = b'L';
     text[13 * 5 + 10] = b'a';
     assert_eq!(rt;
@@ -60,8 +50,9 @@ fn names_the_lowest_line(rt: HostRuntime) -> Result<(), Fail> {
 #[test]
 fn writes_in_place(rt: HostRuntime) -> Result<(), Fail> {
     let shape = Shape::new(4, 2, 3)?;
-    let mut text = [0u8; 728];
-    fill(&mut text);
+    // All symbols 00 and all columns present.
+    let mut text = text_of::<Byte>(rt.alloc(), shape, &[])?;
+    assert_eq!(rt; text.len(), 728);
     let mut frames: Frames<Byte> = Frames::over(shape, &mut text);
     assert_eq!(rt; frames.columns(), 7);
     assert_eq!(rt; frames.rows(), 8);

@@ -1,60 +1,59 @@
 // A plain book of the route, kept beside the array: which boards are lost, and the readings of the data columns.
+use code::Shape;
+use route::reading;
 use std::alloc::{AllocError, Global};
+use std::collections::{BTreeMap, BTreeSet};
 use symbol::{Stand, Symbol};
 
 #[derive(Drop)]
 pub(crate) struct Book {
-    rows: usize,
-    lost: Vec<bool>,
-    readings: Vec<Stand>,
+    lost: BTreeSet<usize>,
+    // by column and row
+    readings: BTreeMap<(usize, usize), Stand>,
 }
 
 impl Book {
-    // All boards present, and no readings yet.
-    pub(crate) fn new(
-        heap: Global,
-        columns: usize,
-        data: usize,
-        rows: usize,
-    ) -> Result<Book, AllocError> {
+    // All boards present, and each machine's first reading.
+    pub(crate) fn new(heap: Global, shape: Shape) -> Result<Book, AllocError> {
+        let mut readings = BTreeMap::new(heap);
+        for column in 1..=shape.k {
+            for row in 0..shape.rows() {
+                readings.insert((column, row), reading(column, row))?;
+            }
+        }
         Ok(Book {
-            rows,
-            lost: vec![in heap; false; columns]?,
-            readings: vec![in heap; Stand::zero(); data.saturating_mul(rows)]?,
+            lost: BTreeSet::new(heap),
+            readings,
         })
     }
 
-    fn place(&self, column: usize, row: usize) -> usize {
-        column
-            .saturating_sub(1)
-            .saturating_mul(self.rows)
-            .saturating_add(row)
-    }
-
-    pub(crate) fn put(&mut self, column: usize, row: usize, reading: Stand) {
-        let place = self.place(column, row);
-        if let Some(cell) = self.readings.get_mut(place) {
-            *cell = reading;
-        }
+    pub(crate) fn put(
+        &mut self,
+        column: usize,
+        row: usize,
+        reading: Stand,
+    ) -> Result<(), AllocError> {
+        self.readings.insert((column, row), reading)?;
+        Ok(())
     }
 
     pub(crate) fn reading(&self, column: usize, row: usize) -> Stand {
-        match self.readings.get(self.place(column, row)) {
-            Some(reading) => *reading,
-            None => Stand::zero(),
-        }
+        self.readings
+            .get(&(column, row))
+            .copied()
+            .unwrap_or(Stand::zero())
     }
 
-    pub(crate) fn mark(&mut self, column: usize, lost: bool) {
-        if let Some(mark) = self.lost.get_mut(column.saturating_sub(1)) {
-            *mark = lost;
-        }
+    pub(crate) fn lose(&mut self, column: usize) -> Result<(), AllocError> {
+        self.lost.insert(column)?;
+        Ok(())
+    }
+
+    pub(crate) fn bring_back(&mut self, column: usize) {
+        self.lost.remove(&column);
     }
 
     pub(crate) fn is_lost(&self, column: usize) -> bool {
-        match self.lost.get(column.saturating_sub(1)) {
-            Some(lost) => *lost,
-            None => true,
-        }
+        self.lost.contains(&column)
     }
 }

@@ -1,93 +1,89 @@
-// A line of the input: drawn symbols, and calls.
-use anyhow::anyhow;
+// A line of the input: which array, and the calls on it.
+use anyhow::{Error, anyhow};
 use array::Array;
 use code::Shape;
 use recovery::{Quote, lose, quote};
 use runs::Call;
 use std::alloc::Global;
+use std::str::FromStr;
 use store::{ColumnStore, Table};
 use symbol::{Byte, Symbol};
 
-// A linear congruential generator: the high byte of each state is taken.
-#[derive(Drop)]
-pub(crate) struct Random(pub(crate) u32);
+#[derive(Clone, Copy)]
+pub(crate) enum Kind {
+    Byte,
+    Stand,
+}
 
-impl Random {
-    fn byte(&mut self) -> u8 {
-        self.0 = self.0.wrapping_mul(1664525).wrapping_add(1013904223);
-        (self.0 >> 24) as u8
-    }
+impl FromStr for Kind {
+    type Err = Error;
 
-    fn symbol<X: Symbol>(&mut self) -> X {
-        let mut bytes = [0u8; 16];
-        for b in bytes.iter_mut() {
-            *b = self.byte();
-        }
-        match X::read_bytes(&bytes[0..X::width()]) {
-            Some(symbol) => symbol,
-            None => X::zero(),
+    fn from_str(word: &str) -> Result<Kind, Error> {
+        match word {
+            "byte" => Ok(Kind::Byte),
+            "stand" => Ok(Kind::Stand),
+            _ => Err(anyhow!("there is no kind {word}")),
         }
     }
 }
 
-// The symbols of an array that is not founded yet: the data columns are drawn.
-pub(crate) fn drawn<X: Symbol + Clone>(
-    heap: Global,
-    shape: Shape,
-    random: &mut Random,
-) -> anyhow::Result<Vec<X>> {
-    let rows = shape.rows();
-    let mut cells = vec![in heap; X::zero(); shape.columns() * rows]?;
-    for cell in cells.iter_mut().take(shape.k * rows) {
-        *cell = random.symbol();
-    }
-    Ok(cells)
+// Where the array lies.
+#[derive(Clone, Copy)]
+pub(crate) enum Place {
+    Table,
+    Text,
 }
 
-// One byte as two digits.
-fn push_byte(text: &mut Vec<u8>, value: u8) -> anyhow::Result<()> {
-    let mut digits = [0u8; 2];
-    let _ = Byte { value }.write_digits(&mut digits);
-    text.extend_from_slice(&digits)?;
-    Ok(())
-}
+impl FromStr for Place {
+    type Err = Error;
 
-// The text of an array whose columns are present.
-pub(crate) fn text_of<X: Symbol>(
-    heap: Global,
-    cells: &[X],
-    rows: usize,
-    digits: &mut [u8],
-) -> anyhow::Result<Vec<u8>> {
-    let mut text = Vec::new(heap);
-    for (column, symbols) in cells.chunks(rows.max(1)).enumerate() {
-        for (row, symbol) in symbols.iter().enumerate() {
-            text.extend_from_slice(b"P ")?;
-            push_byte(&mut text, (column.wrapping_add(1) % 256) as u8)?;
-            text.push(b' ')?;
-            push_byte(&mut text, (row / 256 % 256) as u8)?;
-            push_byte(&mut text, (row % 256) as u8)?;
-            text.push(b' ')?;
-            let _ = symbol.write_digits(digits);
-            text.extend_from_slice(digits)?;
-            text.push(b'\n')?;
+    fn from_str(word: &str) -> Result<Place, Error> {
+        match word {
+            "table" => Ok(Place::Table),
+            "text" => Ok(Place::Text),
+            _ => Err(anyhow!("there is no store {word}")),
         }
     }
-    Ok(text)
 }
 
-// The numbers of some words; 0 where there is none.
-fn numbers(text: &str) -> anyhow::Result<[usize; 5]> {
-    let mut numbers = [0usize; 5];
-    for (number, word) in numbers.iter_mut().zip(text.split_whitespace()) {
-        *number = word.parse::<usize>()?;
+// The next of some words.
+fn next<'a>(words: &mut impl Iterator<Item = &'a str>) -> anyhow::Result<&'a str> {
+    words.next().ok_or_else(|| anyhow!("a word is missing"))
+}
+
+// The next of them, which is a number.
+fn number<'a>(words: &mut impl Iterator<Item = &'a str>) -> anyhow::Result<usize> {
+    Ok(next(words)?.parse()?)
+}
+
+#[derive(Clone, Copy)]
+pub(crate) struct Head {
+    pub(crate) kind: Kind,
+    pub(crate) place: Place,
+    pub(crate) shape: Shape,
+    pub(crate) seed: u32,
+}
+
+impl FromStr for Head {
+    type Err = Error;
+
+    fn from_str(text: &str) -> Result<Head, Error> {
+        let mut words = text.split_whitespace();
+        Ok(Head {
+            kind: next(&mut words)?.parse()?,
+            place: next(&mut words)?.parse()?,
+            shape: Shape::new(
+                number(&mut words)?,
+                number(&mut words)?,
+                number(&mut words)?,
+            )?,
+            seed: next(&mut words)?.parse()?,
+        })
     }
-    Ok(numbers)
 }
 
 // A quote of another array, of zeros.
-fn foreign(heap: Global, k: usize, q: usize, p: usize, column: usize) -> anyhow::Result<Quote> {
-    let shape = Shape::new(k, q, p)?;
+fn foreign(heap: Global, shape: Shape, column: usize) -> anyhow::Result<Quote> {
     let mut cells = vec![in heap; Byte::zero(); shape.columns() * shape.rows()]?;
     let mut table = Table::over(shape, &mut cells);
     let array = Array::open(shape, &table);
@@ -95,60 +91,63 @@ fn foreign(heap: Global, k: usize, q: usize, p: usize, column: usize) -> anyhow:
     Ok(quote(&array, &table, column)?)
 }
 
-// A put: column, row and digits.
-fn put_call<X: Symbol>(text: &str) -> anyhow::Result<Call<X>> {
-    let mut words = text.split_whitespace();
-    let (Some(column), Some(row), Some(digits)) = (words.next(), words.next(), words.next()) else {
-        return Err(anyhow!("a put has a column, a row and digits"));
-    };
-    let Some(symbol) = X::read_digits(digits.as_bytes()) else {
-        return Err(anyhow!("these are no digits of a symbol"));
-    };
-    Ok(Call::Put {
-        column: column.parse::<usize>()?,
-        row: row.parse::<usize>()?,
-        symbol,
-    })
-}
-
-// A call, by its letter and numbers.
-fn call<X: Symbol>(letter: &str, text: &str) -> anyhow::Result<Call<X>> {
-    if letter == "P" {
-        return put_call(text);
-    }
-    let [a, b, ..] = numbers(text)?;
+// A call, by its letter and its words.
+fn call<'a, X: Symbol>(
+    letter: &str,
+    words: &mut impl Iterator<Item = &'a str>,
+) -> anyhow::Result<Call<X>> {
     match letter {
         "F" => Ok(Call::Found),
-        "G" => Ok(Call::Get { column: a, row: b }),
-        "L" => Ok(Call::Lose { column: a }),
-        "Q" => Ok(Call::Quote { column: a, slot: b }),
-        "B" => Ok(Call::Rebuild { slot: a }),
+        "P" => Ok(Call::Put {
+            column: number(words)?,
+            row: number(words)?,
+            symbol: X::read_digits(next(words)?.as_bytes()).ok_or_else(|| anyhow!(
+                "these are no digits of a symbol"
+            ))?,
+        }),
+        "G" => Ok(Call::Get {
+            column: number(words)?,
+            row: number(words)?,
+        }),
+        "L" => Ok(Call::Lose {
+            column: number(words)?,
+        }),
+        "Q" => Ok(Call::Quote {
+            column: number(words)?,
+            slot: number(words)?,
+        }),
+        "B" => Ok(Call::Rebuild {
+            slot: number(words)?,
+        }),
         "A" => Ok(Call::Audit),
         "?" => Ok(Call::Ask),
-        _ => Err(anyhow!("there is no such call")),
+        _ => Err(anyhow!("there is no call {letter}")),
     }
 }
 
 // The calls of a line. Quotes of other arrays go into the hand.
-pub(crate) fn parsed<X: Symbol>(
+pub(crate) fn calls<X: Symbol>(
     heap: Global,
     text: &str,
     hand: &mut [Option<Quote>],
 ) -> anyhow::Result<Vec<Call<X>>> {
     let mut calls = Vec::new(heap);
     for part in text.split(';') {
-        let (letter, rest) = match part.split_once(" ") {
-            Some(parts) => parts,
-            None => (part, ""),
-        };
-        if letter == "X" {
-            let [k, q, p, column, slot] = numbers(rest)?;
-            let given = foreign(heap, k, q, p, column)?;
-            if let Some(place) = hand.get_mut(slot) {
-                *place = Some(given);
+        let mut words = part.split_whitespace();
+        match words.next() {
+            None => {}
+            Some("X") => {
+                let shape = Shape::new(
+                    number(&mut words)?,
+                    number(&mut words)?,
+                    number(&mut words)?,
+                )?;
+                let given = foreign(heap, shape, number(&mut words)?)?;
+                if let Some(place) = hand.get_mut(number(&mut words)?) {
+                    *place = Some(given);
+                }
             }
-        } else if letter != "" {
-            calls.push(call(letter, rest)?)?;
+            Some(letter) => calls.push(call(letter, &mut words)?)?,
         }
     }
     Ok(calls)

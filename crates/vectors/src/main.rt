@@ -1,77 +1,30 @@
 // Founds an array of bytes and one of stands for each line `k q p seed` of the input, and prints what the parity columns
-// hold: a checksum of each, and its first symbol, and a checksum of the text in which the same array was founded. Then it loses and rebuilds each column, and prints the reads and the
-// column's checksum. For each line `text width what a b` it checks a
-// damaged text. tools/reference.py works out the same lines on its own.
+// hold: a checksum of each, and its first symbol. Then it loses and rebuilds each column, and prints the reads and the
+// column's checksum, and a checksum of the text in which the same array was founded. For each line `text width what a b`
+// it checks a damaged text. tools/reference.py works out the same lines on its own.
 #![tactic(auto)]
 
+mod damage;
+mod line;
+
+use crate::damage::Damage;
+use crate::line::{Kind, Line};
 use anyhow::anyhow;
 use array::Array;
 use code::{Refusal, Shape};
+use drawn::{Digits, Random, checksum, text_checksum, text_of};
 use frames::{Frames, check};
 use recovery::{found, found_in, lose, lost_column, quote, rebuild};
-use std::alloc::Global;
 use store::{ColumnStore, Table};
 use symbol::{Byte, Stand, Symbol};
 
-// A linear congruential generator: the high byte of each state is taken.
-#[derive(Drop)]
-struct Random(u32);
-
-impl Random {
-    fn byte(&mut self) -> u8 {
-        self.0 = self.0.wrapping_mul(1664525).wrapping_add(1013904223);
-        (self.0 >> 24) as u8
-    }
-
-    fn symbol<X: Symbol>(&mut self) -> X {
-        let mut bytes = [0u8; 16];
-        for b in bytes.iter_mut() {
-            *b = self.byte();
-        }
-        match X::read_bytes(&bytes[0..X::width()]) {
-            Some(symbol) => symbol,
-            None => X::zero(),
-        }
-    }
-}
-
-// A step of the checksum FNV-1a of 32 bits.
-fn mixed(sum: u32, bytes: &[u8]) -> u32 {
-    let mut sum = sum;
-    for b in bytes {
-        sum = (sum ^ u32::from(*b)).wrapping_mul(16777619);
-    }
-    sum
-}
-
-// The checksum of a column: over the bytes of its symbols in their order.
-fn checksum<X: Symbol>(column: &[X], bytes: &mut [u8]) -> u32 {
-    let mut sum = 2166136261;
-    for symbol in column {
-        let _ = symbol.write_bytes(bytes);
-        sum = mixed(sum, bytes);
-    }
-    sum
-}
-
-// The digits of a symbol.
-fn digits<X: Symbol>(heap: Global, symbol: X, text: &mut [u8]) -> anyhow::Result<String> {
-    let _ = symbol.write_digits(text);
-    let mut out = String::new(heap);
-    for b in text.iter() {
-        out.push(char::from(*b))?;
-    }
-    Ok(out)
-}
-
+// A column's checksum, and its first symbol.
 fn tell_column<X: Symbol>(rt: &HostRuntime, column: &[X]) -> anyhow::Result<()> {
     let Some(first) = column.first() else {
         return Err(anyhow!("a column without rows"));
     };
-    let mut bytes = [0u8; 16];
-    let mut text = [0u8; 32];
-    let sum = checksum(column, &mut bytes[0..X::width()]);
-    let digits = digits(rt.alloc(), *first, &mut text[0..2 * X::width()])?;
+    let sum = checksum(column);
+    let digits = Digits(*first);
     println!(rt; "  {sum:08X} {digits}")?;
     Ok(())
 }
@@ -80,10 +33,9 @@ fn tell_column<X: Symbol>(rt: &HostRuntime, column: &[X]) -> anyhow::Result<()> 
 fn spoil<X: Symbol, S: ColumnStore<X>>(
     store: &mut S,
     column: usize,
-    rows: usize,
     symbol: X,
-) -> anyhow::Result<()> {
-    for row in 0..rows {
+) -> Result<(), Refusal> {
+    for row in 0..store.rows() {
         store.write(column, row, symbol)?;
     }
     Ok(())
@@ -91,17 +43,15 @@ fn spoil<X: Symbol, S: ColumnStore<X>>(
 
 // The checksum of a column of a store.
 fn stored<X: Symbol, S: ColumnStore<X>>(
+    rt: &HostRuntime,
     store: &mut S,
     column: usize,
-    rows: usize,
-    bytes: &mut [u8],
 ) -> anyhow::Result<u32> {
-    let mut sum = 2166136261;
-    for row in 0..rows {
-        let _ = store.read(column, row)?.write_bytes(bytes);
-        sum = mixed(sum, bytes);
+    let mut symbols = Vec::new(rt.alloc());
+    for row in 0..store.rows() {
+        symbols.push(store.read(column, row)?)?;
     }
-    Ok(sum)
+    Ok(checksum(&symbols))
 }
 
 // Loses each column in turn, rebuilds it, and prints what that read and what the column holds then.
@@ -111,107 +61,24 @@ fn rebuild_all<X: Symbol, S: ColumnStore<X>>(
     store: &mut S,
     work: &mut [X],
     other: X,
-    bytes: &mut [u8],
 ) -> anyhow::Result<()> {
-    let rows = array.shape.rows();
     for column in 1..=array.shape.columns() {
         lose(array, store, column)?;
-        spoil(store, column, rows, other)?;
+        spoil(store, column, other)?;
         let quote = quote(array, store, column)?;
         let before = store.meter();
         if let Err(rejected) = rebuild(array, store, quote, work) {
             return Err(rejected.refusal.into());
         }
         let moved = store.meter().wrapping_sub(before);
-        let sum = stored(store, column, rows, bytes)?;
+        let sum = stored(rt, store, column)?;
         println!(rt; "  {column} {moved} {sum:08X}")?;
     }
     Ok(())
 }
 
-// One byte as two digits.
-fn push_byte(text: &mut Vec<u8>, value: u8) -> anyhow::Result<()> {
-    let mut digits = [0u8; 2];
-    let _ = Byte { value }.write_digits(&mut digits);
-    text.extend_from_slice(&digits)?;
-    Ok(())
-}
-
-// One frame of a present column.
-fn push_frame<X: Symbol>(
-    text: &mut Vec<u8>,
-    column: usize,
-    row: usize,
-    symbol: X,
-    digits: &mut [u8],
-) -> anyhow::Result<()> {
-    text.extend_from_slice(b"P ")?;
-    push_byte(text, (column % 256) as u8)?;
-    text.push(b' ')?;
-    push_byte(text, (row / 256 % 256) as u8)?;
-    push_byte(text, (row % 256) as u8)?;
-    text.push(b' ')?;
-    let _ = symbol.write_digits(digits);
-    text.extend_from_slice(digits)?;
-    text.push(b'\n')?;
-    Ok(())
-}
-
-// The text of an array whose columns are present.
-fn text_of<X: Symbol>(
-    heap: Global,
-    cells: &[X],
-    rows: usize,
-    digits: &mut [u8],
-) -> anyhow::Result<Vec<u8>> {
-    let mut text = Vec::new(heap);
-    for (column, symbols) in cells.chunks(rows.max(1)).enumerate() {
-        for (row, symbol) in symbols.iter().enumerate() {
-            push_frame(&mut text, column.wrapping_add(1), row, *symbol, digits)?;
-        }
-    }
-    Ok(text)
-}
-
-// Prints the checksum of a text.
-fn tell_text(rt: &HostRuntime, text: &[u8]) -> anyhow::Result<()> {
-    let sum = mixed(2166136261, text);
-    println!(rt; "  text {sum:08X}")?;
-    Ok(())
-}
-
-// Founds in a text of bytes.
-fn found_bytes(shape: Shape, text: &mut [u8], work: &mut [Byte]) -> Result<usize, Refusal> {
-    check::<Byte>(shape, text)?;
-    let mut store = Frames::over(shape, text);
-    let array = Array::open(shape, &store);
-    found(&array, &mut store, work)
-}
-
-// Founds in a text of stands.
-fn found_stands(shape: Shape, text: &mut [u8], work: &mut [Stand]) -> Result<usize, Refusal> {
-    check::<Stand>(shape, text)?;
-    let mut store = Frames::over(shape, text);
-    let array = Array::open(shape, &store);
-    found(&array, &mut store, work)
-}
-
-// The symbols of an array that is not founded yet: the data columns are drawn.
-fn drawn<X: Symbol + Clone>(
-    heap: Global,
-    shape: Shape,
-    random: &mut Random,
-) -> anyhow::Result<Vec<X>> {
-    let rows = shape.rows();
-    let mut cells = vec![in heap; X::zero(); shape.columns() * rows]?;
-    for cell in cells.iter_mut().take(shape.k * rows) {
-        *cell = random.symbol();
-    }
-    Ok(cells)
-}
-
 // Founds an array in a table, prints its parity columns, and rebuilds each column.
-fn table<X: Symbol>(
+fn in_table<X: Symbol>(
     rt: &HostRuntime,
     shape: Shape,
     cells: &mut [X],
@@ -225,165 +92,81 @@ fn table<X: Symbol>(
     }
     let mut table = Table::over(shape, cells);
     let array = Array::open(shape, &table);
-    let mut bytes = [0u8; 16];
-    rebuild_all(
-        rt,
-        &array,
-        &mut table,
-        work,
-        other,
-        &mut bytes[0..X::width()],
-    )
+    rebuild_all(rt, &array, &mut table, work, other)
 }
 
-fn bytes(rt: &HostRuntime, shape: Shape, seed: u32) -> anyhow::Result<()> {
+// Founds an array in a text.
+fn in_text<X: Symbol>(shape: Shape, text: &mut [u8], work: &mut [X]) -> Result<usize, Refusal> {
+    check::<X>(shape, text)?;
+    let mut store: Frames<X> = Frames::over(shape, text);
+    let array = Array::open(shape, &store);
+    found(&array, &mut store, work)
+}
+
+// An array of one kind of symbol, in a table and in a text.
+fn tell_array<X: Symbol>(rt: &HostRuntime, shape: Shape, seed: u32) -> anyhow::Result<()> {
     let mut random = Random(seed);
-    let mut cells = drawn::<Byte>(rt.alloc(), shape, &mut random)?;
-    let mut work = vec![in rt.alloc(); Byte::zero(); shape.helpers() * shape.rows()]?;
-    let mut digits = [0u8; 2];
-    let mut text = text_of(rt.alloc(), &cells, shape.rows(), &mut digits)?;
-    table(rt, shape, &mut cells, &mut work, random.symbol())?;
-    found_bytes(shape, &mut text, &mut work)?;
-    tell_text(rt, &text)
-}
-
-fn stands(rt: &HostRuntime, shape: Shape, seed: u32) -> anyhow::Result<()> {
-    let mut random = Random(seed);
-    let mut cells = drawn::<Stand>(rt.alloc(), shape, &mut random)?;
-    let mut work = vec![in rt.alloc(); Stand::zero(); shape.helpers() * shape.rows()]?;
-    let mut digits = [0u8; 12];
-    let mut text = text_of(rt.alloc(), &cells, shape.rows(), &mut digits)?;
-    table(rt, shape, &mut cells, &mut work, random.symbol())?;
-    found_stands(shape, &mut text, &mut work)?;
-    tell_text(rt, &text)
-}
-
-// One line of the input.
-fn line(rt: &HostRuntime, text: &str) -> anyhow::Result<()> {
-    let mut numbers = [0u32; 4];
-    for (number, word) in numbers.iter_mut().zip(text.split_whitespace()) {
-        *number = word.parse::<u32>()?;
-    }
-    let [k, q, p, seed] = numbers;
-    println!(rt; "{k} {q} {p}")?;
-    match Shape::new(k as usize, q as usize, p as usize) {
-        Ok(shape) => {
-            bytes(rt, shape, seed)?;
-            stands(rt, shape, seed)
-        }
-        Err(refusal) => {
-            println!(rt; " refused, {refusal}")?;
-            Ok(())
-        }
-    }
-}
-
-// Another byte at a place of a text, if there is such a place.
-fn put(text: &mut [u8], at: usize, byte: u8) {
-    if let Some(place) = text.get_mut(at) {
-        *place = byte;
-    }
-}
-
-// Two lines change places.
-fn swap_lines(text: &mut [u8], stride: usize, a: usize, b: usize) {
-    for i in 0..stride {
-        let x = a.saturating_mul(stride).saturating_add(i);
-        let y = b.saturating_mul(stride).saturating_add(i);
-        if let (Some(first), Some(second)) = (text.get(x).copied(), text.get(y).copied()) {
-            put(text, x, second);
-            put(text, y, first);
-        }
-    }
-}
-
-// What was done to a text: 0 another byte at a place, 1 cut to a length, 2 newlines added, 3 lines changed places, 4 a
-// whole column marked lost.
-fn damage(
-    text: &mut Vec<u8>,
-    stride: usize,
-    rows: usize,
-    what: u32,
-    a: usize,
-    b: usize,
-) -> anyhow::Result<()> {
-    match what {
-        0 => put(text, a, (b % 256) as u8),
-        1 => text.truncate(a),
-        2 => {
-            for _ in 0..a {
-                text.push(b'\n')?;
-            }
-        }
-        3 => swap_lines(text, stride, a, b),
-        _ => {
-            for row in 0..rows {
-                let line = a.saturating_sub(1).saturating_mul(rows).saturating_add(row);
-                put(text, line.saturating_mul(stride), b'L');
-            }
-        }
-    }
+    let mut cells = random.array::<X>(rt.alloc(), shape)?;
+    let mut work = vec![in rt.alloc(); X::zero(); shape.helpers() * shape.rows()]?;
+    let mut text = text_of(rt.alloc(), shape, &cells)?;
+    in_table(rt, shape, &mut cells, &mut work, random.symbol())?;
+    in_text(shape, &mut text, &mut work)?;
+    let sum = text_checksum(&text);
+    println!(rt; "  text {sum:08X}")?;
     Ok(())
 }
 
-// What the check says of a text, and what is lost in it.
-fn tell_check(
-    rt: &HostRuntime,
-    answer: Result<(), Refusal>,
-    lost: Option<usize>,
-) -> anyhow::Result<()> {
-    match (answer, lost) {
-        (Err(refusal), _) => println!(rt; " refused, {refusal}")?,
-        (Ok(()), Some(column)) => println!(rt; " passes, column {column} is lost")?,
-        (Ok(()), None) => println!(rt; " passes, nothing is lost")?,
-    }
-    Ok(())
-}
-
-// A text of one kind of symbol, damaged and checked: the first number of the line is the kind's width.
-fn damaged(rt: &HostRuntime, text: &str) -> anyhow::Result<()> {
-    let mut numbers = [0u32; 4];
-    for (number, word) in numbers.iter_mut().zip(text.split_whitespace()) {
-        *number = word.parse::<u32>()?;
-    }
-    let [width, what, a, b] = numbers;
-    println!(rt; "{width} {what} {a} {b}")?;
+// What the check says of a damaged text, and what is lost in it.
+fn tell_check<X: Symbol>(rt: &HostRuntime, damage: Damage) -> anyhow::Result<()> {
     let shape = Shape::new(4, 2, 3)?;
-    let mut random = Random(77);
-    if width == 1 {
-        let cells = drawn::<Byte>(rt.alloc(), shape, &mut random)?;
-        let mut text = text_of(rt.alloc(), &cells, shape.rows(), &mut [0u8; 2])?;
-        damage(&mut text, 13, shape.rows(), what, a as usize, b as usize)?;
-        let answer = check::<Byte>(shape, &text);
-        tell_check(
-            rt,
-            answer,
-            lost_column(&Frames::<Byte>::over(shape, &mut text)),
-        )
-    } else {
-        let cells = drawn::<Stand>(rt.alloc(), shape, &mut random)?;
-        let mut text = text_of(rt.alloc(), &cells, shape.rows(), &mut [0u8; 12])?;
-        damage(&mut text, 23, shape.rows(), what, a as usize, b as usize)?;
-        let answer = check::<Stand>(shape, &text);
-        tell_check(
-            rt,
-            answer,
-            lost_column(&Frames::<Stand>::over(shape, &mut text)),
-        )
+    let cells = Random(77).array::<X>(rt.alloc(), shape)?;
+    let mut text = text_of(rt.alloc(), shape, &cells)?;
+    damage.apply(rt.alloc(), &mut text, 11 + 2 * X::width(), shape.rows())?;
+    if let Err(refusal) = check::<X>(shape, &text) {
+        println!(rt; " refused, {refusal}")?;
+        return Ok(());
+    }
+    let store: Frames<X> = Frames::over(shape, &mut text);
+    match lost_column(&store) {
+        Some(column) => println!(rt; " passes, column {column} is lost")?,
+        None => println!(rt; " passes, nothing is lost")?,
+    }
+    Ok(())
+}
+
+fn tell(rt: &HostRuntime, text: &str) -> anyhow::Result<()> {
+    match text.parse()? {
+        Line::Array { k, q, p, seed } => {
+            println!(rt; "{k} {q} {p}")?;
+            match Shape::new(k, q, p) {
+                Ok(shape) => {
+                    tell_array::<Byte>(rt, shape, seed)?;
+                    tell_array::<Stand>(rt, shape, seed)
+                }
+                Err(refusal) => {
+                    println!(rt; " refused, {refusal}")?;
+                    Ok(())
+                }
+            }
+        }
+        Line::Text { kind, damage } => {
+            let rest = text.strip_prefix("text ").unwrap_or(text);
+            println!(rt; "{rest}")?;
+            match kind {
+                Kind::Byte => tell_check::<Byte>(rt, damage),
+                Kind::Stand => tell_check::<Stand>(rt, damage),
+            }
+        }
     }
 }
 
-fn run(rt: &HostRuntime) -> anyhow::Result<()> {
-    for text in rt.lines(rt.alloc()) {
-        let text = text?;
-        match text.as_str().strip_prefix("text ") {
-            Some(rest) => damaged(rt, rest)?,
-            None => line(rt, text.as_str())?,
-        }
+fn tell_all(rt: &HostRuntime) -> anyhow::Result<()> {
+    for line in rt.lines(rt.alloc()) {
+        tell(rt, line?.as_str())?;
     }
     Ok(())
 }
 
 fn main(rt: HostRuntime) -> anyhow::Result<()> {
-    run(&rt)
+    tell_all(&rt)
 }
