@@ -8,5 +8,5 @@ use Rattle.audit.proofs.comparing.compare_rows.Given as goal
 abbrev pub invariant-loop-row : goal.invariant-loop-row
 invariant-loop-row g l =
     let x = g.X.Symbol in
-    let s = l.shape in
-    Compared (g.S.ColumnStore.view l.initial.store) (s.k + l.parity) l.row (parity_of x.zero x.plus s (symbols_of x.zero (rows_of s) l.cells) l.parity) l.holds (g.S.ColumnStore.view l.store)
+    let s = l.rule.shape in
+    Compared (g.S.ColumnStore.view l.initial.store) (s.k + l.rule.parity) l.row (parity_of x.zero x.plus s (symbols_of x.zero (rows_of s) l.cells) l.rule.parity) l.holds (g.S.ColumnStore.view l.store)
