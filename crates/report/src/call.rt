@@ -6,7 +6,7 @@ ghost use Rattle.report.specs.Printed.{marks, symbols, told, frames_refusal, ans
 ghost use Rattle.report.specs.Prints.{Prints};
 
 use crate::failure::Failure;
-use crate::heads::head;
+use crate::heads::split_head;
 use crate::lines::refused;
 use crate::restore::tell;
 use array::Array;
@@ -50,9 +50,9 @@ fn answer(heap: Global, shape: Shape, text: &[u8]) -> Result<String, Failure>
 fn rebuilt(heap: Global, input: &[u8]) -> Result<String, Failure>
     ensures { Prints string_bytes (printed input.now) result }
 {
-    let head = head(input).ok_or(Refusal::BadFrame { line: 0 })?;
+    let (head, frames) = split_head(input).ok_or(Refusal::BadFrame { line: 0 })?;
     let shape = Shape::new(head.k, head.q, head.p)?;
-    answer(heap, shape, &input[11..])
+    answer(heap, shape, frames)
 }
 
 // What the program prints of an input: if the memory suffices, exactly the bytes that `printed` says.

@@ -1,5 +1,6 @@
 // Reading a head line.
-ghost use Rattle.std.specs.Prelude.{◌≡◌};
+ghost use Rattle.std.specs.Prelude.{◌≡◌, drop, IfSome};
+ghost use Rattle.std.specs.Option.{option_map};
 ghost use Rattle.report.specs.Heads.{head_of, number_in};
 
 use crate::head::Head;
@@ -13,14 +14,16 @@ fn number(digits: [u8; 2]) -> Option<usize>
     Some(usize::from(byte.value))
 }
 
-pub(crate) fn head(input: &[u8]) -> Option<Head>
-    ensures { result ≡ head_of input.now }
+// The head, and the frames after it.
+pub(crate) fn split_head(input: &[u8]) -> Option<(Head, &[u8])>
+    ensures head { option_map (λ split. split.0) result ≡ head_of input.now }
+    ensures frames { IfSome result (λ split. split.1.now ≡ drop 11 input.now) }
 {
-    let [b'H', b' ', a, b, b' ', c, d, b' ', e, f, b'\n', ..] = input else {
+    let [b'H', b' ', a, b, b' ', c, d, b' ', e, f, b'\n', frames @ ..] = input else {
         return None;
     };
     let k = number([*a, *b])?;
     let q = number([*c, *d])?;
     let p = number([*e, *f])?;
-    Some(Head { k, q, p })
+    Some((Head { k, q, p }, frames))
 }
