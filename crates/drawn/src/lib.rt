@@ -6,7 +6,7 @@ mod digits;
 mod random;
 mod texts;
 
-pub use checksums::{checksum, text_checksum};
+pub use checksums::{checksum, column_checksum, text_checksum};
 pub use digits::Digits;
 pub use random::Random;
 pub use texts::text_of;

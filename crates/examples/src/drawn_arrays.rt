@@ -1,8 +1,9 @@
 // What is drawn of the seed 77, against tools/reference.py.
-use code::Shape;
-use drawn::{Digits, Random, checksum, text_checksum, text_of};
-use frames::check;
+use code::{Refusal, Shape};
+use drawn::{Digits, Random, checksum, column_checksum, text_checksum, text_of};
+use frames::{Frames, check};
 use std::test::Fail;
+use store::ColumnStore;
 use symbol::{Byte, Stand};
 
 #[test]
@@ -16,9 +17,17 @@ fn bytes(rt: HostRuntime) -> Result<(), Fail> {
     assert_eq!(rt; cells[32], Byte { value: 0 });
     assert_eq!(rt; checksum(&cells[..8]), 0xB3770B22);
     assert_eq!(rt; random.symbol::<Byte>(), Byte { value: 0xAB });
-    let text = text_of(rt.alloc(), shape, &cells)?;
+    let mut text = text_of(rt.alloc(), shape, &cells)?;
     assert_eq!(rt; check::<Byte>(shape, &text), Ok(()));
     assert_eq!(rt; text_checksum(&text), 0x36B5E5F8);
+    let mut store: Frames<Byte> = Frames::over(shape, &mut text);
+    assert_eq!(rt; column_checksum(&mut store, 1), Ok(0xB3770B22));
+    assert_eq!(rt; store.meter(), 8);
+    store.drop_column(2)?;
+    assert_eq!(rt;
+        column_checksum(&mut store, 2),
+        Err(Refusal::ColumnLost { column: 2 })
+    );
     Ok(())
 }
 

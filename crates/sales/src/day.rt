@@ -104,9 +104,9 @@ impl Day<'_> {
             "Column {lost} is quoted at {count} reads; whole columns would take {whole}."
         )?;
         let before = self.table.meter();
-        if let Err(rejected) = rebuild(self.array, &mut self.table, quote, &mut self.work) {
-            return Err(rejected.refusal.into());
-        }
+        rebuild(self.array, &mut self.table, quote, &mut self.work).map_err(
+            |rejected| rejected.refusal,
+        )?;
         self.book.bring_back(lost);
         let moved = self.table.meter().wrapping_sub(before);
         println!(self.rt; "Rebuilt; the meter moved by {moved}.")?;

@@ -1,5 +1,5 @@
 // What is printed: what came of each call, and what a store holds.
-use drawn::{Digits, checksum};
+use drawn::{Digits, column_checksum};
 use runs::{Answer, Outcome};
 use std::fmt;
 use store::ColumnStore;
@@ -29,19 +29,6 @@ impl<X: Symbol> fmt::Display for Told<X> {
     }
 }
 
-// The checksum of a present column.
-fn stored<X: Symbol, S: ColumnStore<X>>(
-    rt: &HostRuntime,
-    store: &mut S,
-    column: usize,
-) -> anyhow::Result<u32> {
-    let mut symbols = Vec::new(rt.alloc());
-    for row in 0..store.rows() {
-        symbols.push(store.read(column, row)?)?;
-    }
-    Ok(checksum(&symbols))
-}
-
 // The meter, and each column: its checksum, or that it is lost.
 pub(crate) fn tell_store<X: Symbol, S: ColumnStore<X>>(
     rt: &HostRuntime,
@@ -53,7 +40,7 @@ pub(crate) fn tell_store<X: Symbol, S: ColumnStore<X>>(
         if store.is_lost(column) {
             print!(rt; " lost")?;
         } else {
-            let sum = stored(rt, store, column)?;
+            let sum = column_checksum(store, column)?;
             print!(rt; " {sum:08X}")?;
         }
     }

@@ -12,7 +12,7 @@ use crate::line::{Kind, Line};
 use anyhow::anyhow;
 use array::Array;
 use code::{Refusal, Shape};
-use drawn::{Digits, Random, checksum, text_checksum, text_of};
+use drawn::{Digits, Random, checksum, column_checksum, text_checksum, text_of};
 use frames::{Frames, check};
 use recovery::{found, found_in, lose, lost_column, quote, rebuild};
 use store::{ColumnStore, Table};
@@ -41,19 +41,6 @@ fn spoil<X: Symbol, S: ColumnStore<X>>(
     Ok(())
 }
 
-// The checksum of a column of a store.
-fn stored<X: Symbol, S: ColumnStore<X>>(
-    rt: &HostRuntime,
-    store: &mut S,
-    column: usize,
-) -> anyhow::Result<u32> {
-    let mut symbols = Vec::new(rt.alloc());
-    for row in 0..store.rows() {
-        symbols.push(store.read(column, row)?)?;
-    }
-    Ok(checksum(&symbols))
-}
-
 // Loses each column in turn, rebuilds it, and prints what that read and what the column holds then.
 fn rebuild_all<X: Symbol, S: ColumnStore<X>>(
     rt: &HostRuntime,
@@ -67,11 +54,9 @@ fn rebuild_all<X: Symbol, S: ColumnStore<X>>(
         spoil(store, column, other)?;
         let quote = quote(array, store, column)?;
         let before = store.meter();
-        if let Err(rejected) = rebuild(array, store, quote, work) {
-            return Err(rejected.refusal.into());
-        }
+        rebuild(array, store, quote, work).map_err(|rejected| rejected.refusal)?;
         let moved = store.meter().wrapping_sub(before);
-        let sum = stored(rt, store, column)?;
+        let sum = column_checksum(store, column)?;
         println!(rt; "  {column} {moved} {sum:08X}")?;
     }
     Ok(())
