@@ -1,6 +1,6 @@
 -- What the check of a line, and of the lines one after another, comes to.
-use Rattle.std.proofs.Common.{◌≡◌, ℕ, zero, suc, ◌+◌, ◌-◌, ◌*◌, ◌/◌, ◌%◌, ◌<◌, ◌≤◌, Bool, true, false, cond, not, eqb, List, length, get_or, take, drop, is_some, is_ok, Some, None, Ok, Err, Option, Result, sym, refl, ap, ◌∙◌, subst, ap₂, inl, inr, add-one, arith}
-use Rattle.std.proofs.lemmas.Bool.{ne_eqb, eq-eqb, cases_eq, false≢true, true≢false}
+use Rattle.std.proofs.Common.{◌≡◌, ℕ, zero, suc, ◌+◌, ◌-◌, ◌*◌, ◌/◌, ◌%◌, ◌<◌, ◌≤◌, Bool, true, false, cond, not, eqb, List, length, get_or, take, drop, is_some, Some, None, Option, Result, sym, refl, ap, ◌∙◌, subst, ap₂, inl, inr, add-one, arith}
+use Rattle.std.proofs.lemmas.Bool.{ne_eqb, eq-eqb, cases_eq}
 use Rattle.code.specs.declared.refusal.Refusal.{Refusal}
 use Rattle.code.specs.declared.refusal.Refusal.TheVariants.{TextLength, BadFrame, MarkDiffers}
 use Rattle.code.specs.Refusals.{refuse, or_else}
@@ -67,15 +67,6 @@ module _ (columns rows w m n s : ℕ) (text : List ℕ) (m-is : m ≡ columns) (
 
   pub right_told : {U : Type 0} → length text ≡ m * n * s → (r : Result U Refusal) → Told (lines_refusal n w text (m * n)) r → Told (text_refusal columns rows w text) r
   right_told h r t = subst (λ (o : Option Refusal). Told o r) (ap₂ (λ c k. lines_refusal k w text (c * k)) m-is n-is ∙ sym (right_length columns rows w text (h ∙ size))) t
-
--- a call that answers Ok found nothing to refuse
-pub told_ok : {U : Type 0} (refusal : Option Refusal) (r : Result U Refusal) → Told refusal r → is_ok r ≡ true → refusal ≡ None
-told_ok refusal (Ok u) t h = t
-told_ok refusal (Err e) t h = absurd (false≢true h)
-
-pub told_err : {U : Type 0} (refusal : Option Refusal) (r : Result U Refusal) → Told refusal r → is_ok r ≡ false → (e : Refusal) × (refusal ≡ Some e)
-told_err refusal (Ok u) t h = absurd (true≢false h)
-told_err refusal (Err e) t h = (e, t)
 
 -- a column that is there is not refused
 pub column_there : (m c : ℕ) (e : Refusal) → 1 ≤ c → c ≤ m → refuse (outside 1 m c) e None ≡ None

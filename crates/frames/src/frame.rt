@@ -12,6 +12,7 @@ pub fn digits(value: u8) -> [u8; 2]
     ensures { result ≡ hex (value ∷ []) }
 {
     let mut digits = [0; 2];
+    // The array is as long as the digits of a byte.
     let _ = Byte { value }.write_digits(&mut digits);
     digits
 }

@@ -1,4 +1,5 @@
-// A column store over a lent text, one line for each symbol.
+// A column store over a lent text, one line for each symbol. Where it has columns it has rows, and the text has the length
+// that they ask; else it has neither.
 ghost use Rattle.std.specs.Prelude.{◌≡◌, ◌*◌, ◌^◌, ◌<◌, ◌≤◌, length};
 ghost use Rattle.frames.specs.Lines.{stride as stride_of};
 
