@@ -141,7 +141,7 @@ module _ {X : Type 0} (plus : X → X → X) (δ : X) where
             ]
 
   -- one parity more
-  pub parities_more :
+  parities_more :
       (s : Shape) (c row j m n : ℕ) (g h i : View X) → fits s g ≡ true → j < parities_of s →
       Added plus δ (λ d y. leb d (s.k + j) && carries s g c row d y) (sum_to 0 ◌+◌ j (λ a. carried s g c row (s.k + (a + 1)))) g m h →
       Added plus δ (λ d y. eqb d (s.k + (j + 1)) && carries s h c row d y) (carried s h c row (s.k + (j + 1))) h n i →
@@ -175,18 +175,30 @@ module _ {X : Type 0} (plus : X → X → X) (δ : X) where
           grouped true v e = rw e (grind (arith, nat_tests), grind (arith, nat_tests))
           grouped false v e = rw e (grind (arith, nat_tests), grind (arith, nat_tests))
 
+  -- the same by the parity's number; how many parities that makes is told by an equation
+  pub parities_next :
+      (s : Shape) (c row j i m n : ℕ) (g h h' : View X) → fits s g ≡ true → 1 ≤ j → j ≤ parities_of s → i ≡ j →
+      Added plus δ (λ d y. leb d (s.k + (j - 1)) && carries s g c row d y) (sum_to 0 ◌+◌ (j - 1) (λ a. carried s g c row (s.k + (a + 1)))) g m h →
+      Added plus δ (λ d y. eqb d (s.k + j) && carries s h c row d y) (carried s h c row (s.k + j)) h n h' →
+      Added plus δ (λ d y. leb d (s.k + i) && carries s g c row d y) (sum_to 0 ◌+◌ i (λ a. carried s g c row (s.k + (a + 1)))) g (m + n) h'
+  parities_next s c row j i m n g h h' fit one last is A B =
+      let here : j ≡ j - 1 + 1 = omega arith in
+      let next : j - 1 + 1 ≡ i = omega arith in
+      subst (λ b. Added plus δ (λ d y. leb d (s.k + b) && carries s g c row d y) (sum_to 0 ◌+◌ b (λ a. carried s g c row (s.k + (a + 1)))) g (m + n) h') next
+      (parities_more s c row (j - 1) m n g h h' fit (omega arith) A (subst (λ b. Added plus δ (λ d y. eqb d (s.k + b) && carries s h c row d y) (carried s h c row (s.k + b)) h n h') here B))
+
   -- no parity yet
   pub parities_none : (s : Shape) (c row : ℕ) (g : View X) → g.meter < 2 ^ 64 → Added plus δ (λ d y. leb d (s.k + 0) && carries s g c row d y) 0 g 0 g
   parities_none s c row g small = record { reads = refl; leaves = leaves_none (λ d y. leb d (s.k + 0) && carries s g c row d y) g small (λ d y inside. grind (arith, nat_tests)) }
 
   -- all of them
   pub parities_all :
-      (s : Shape) (c row j m : ℕ) (g h : View X) → fits s g ≡ true → j ≡ parities_of s →
-      Added plus δ (λ d y. leb d (s.k + j) && carries s g c row d y) (sum_to 0 ◌+◌ j (λ a. carried s g c row (s.k + (a + 1)))) g m h →
+      (s : Shape) (c row m : ℕ) (g h : View X) → fits s g ≡ true →
+      Added plus δ (λ d y. leb d (s.k + parities_of s) && carries s g c row d y) (sum_to 0 ◌+◌ (parities_of s) (λ a. carried s g c row (s.k + (a + 1)))) g m h →
       Added plus δ (carries s g c row) (sum_to 0 ◌+◌ (parities_of s) (λ a. carried s g c row (s.k + (a + 1)))) g m h
-  parities_all s c row j m g h fit e A = record {
-    reads = A.reads ∙ ap (λ n. sum_to 0 ◌+◌ n (λ a. carried s g c row (s.k + (a + 1)))) e;
-    leaves = leaves_as _ _ _ _ g h (ap (λ n. sum_to 0 ◌+◌ n (λ a. carried s g c row (s.k + (a + 1)))) e) (λ d y inside. let last : leb d (s.k + j) ≡ true = grind (arith, nat_tests, inside.1, wide s g fit) in rw last) A.leaves;
+  parities_all s c row m g h fit A = record {
+    reads = A.reads;
+    leaves = leaves_as _ _ _ _ g h refl (λ d y inside. let last : leb d (s.k + parities_of s) ≡ true = grind (arith, nat_tests, inside.1, wide s g fit) in rw last) A.leaves;
   }
 
 -- a put: its read, its write, and the parities

@@ -88,8 +88,8 @@ impl Place {
         ensures { Accepts (λ n. Added X.Symbol.plus change (carries self.shape (S.ColumnStore.view store.old) self.column self.row) (sum_to 0 ◌+◌ (parities_of self.shape) (λ j. carried self.shape (S.ColumnStore.view store.old) self.column self.row (self.shape.k + (j + 1)))) (S.ColumnStore.view store.old) n (S.ColumnStore.view store.new)) result }
     {
         let mut count = 0;
-        for j in 0..self.shape.parities() {
-            count += self.change_parity(store, j + 1, change)?;
+        for parity in 1..=self.shape.parities() {
+            count += self.change_parity(store, parity, change)?;
         }
         Ok(count)
     }

@@ -1,25 +1,31 @@
-use Rattle.std.proofs.Common.{◌+◌, arith}
-use Rattle.code.specs.Shapes.{rows_of}
+use Rattle.std.proofs.Common.{◌+◌, ◌-◌, arith, rules}
+use Rattle.code.specs.Shapes.{parities_of, rows_of}
 use Rattle.updates.specs.Updates.{carries}
 use Rattle.array.proofs.Checked.{still_fits}
-use Rattle.updates.proofs.Carries.{count_low, carried_low, parities_none, parities_more, parities_all}
+use Rattle.updates.proofs.Carries.{count_low, carried_low, parities_none, parities_next, parities_all}
 use Rattle.updates.proofs.places.Place.change_parities.Goals as goal
 
-pub loop-j-init : goal.loop-j-init
-loop-j-init g c = parities_none g.X.Symbol.plus c.args.change c.args.self.shape c.args.self.column c.args.self.row _ (g.S.ColumnStore.counted c.args.store.now)
+pub loop-parity-init : goal.loop-parity-init
+loop-parity-init g c = parities_none g.X.Symbol.plus c.args.change c.args.self.shape c.args.self.column c.args.self.row _ (g.S.ColumnStore.counted c.args.store.now)
 
 pub change_parity-requires-clause-fits : goal.change_parity-requires-clause-fits
 change_parity-requires-clause-fits g c =
-    let L = c.loop-j.invariant.leaves in
-    still_fits c.args.self.shape (g.S.ColumnStore.view c.args.store.now) (g.S.ColumnStore.view c.loop-j.store) c.requires L.columns L.rows
+    let L = c.loop-parity.invariant.leaves in
+    still_fits c.args.self.shape (g.S.ColumnStore.view c.args.store.now) (g.S.ColumnStore.view c.loop-parity.store) c.requires L.columns L.rows
 
 pub overflow_add-count : goal.overflow_add-count
 overflow_add-count g c =
-    let s = c.args.self.shape in
-    omega (arith, c.loop-j.invariant.reads, c.in_ok-count.ensures.reads, carried_low s (g.S.ColumnStore.view c.args.store.now) c.args.self.column c.args.self.row c.loop-j.j, count_low (rows_of s) (carries s (g.S.ColumnStore.view c.loop-j.store) c.args.self.column c.args.self.row (s.k + (c.loop-j.j + 1))), s.small, c.parities-j-end.ensures)
+    let p = c.args.self in
+    let parity = c.loop-parity.parity in
+    omega (arith, c.loop-parity.invariant.reads, c.in_ok-count.ensures.reads, carried_low p.shape (g.S.ColumnStore.view c.args.store.now) p.column p.row (parity - 1), count_low (rows_of p.shape) (carries p.shape (g.S.ColumnStore.view c.loop-parity.store) p.column p.row (p.shape.k + parity)), p.shape.small, c.parities-parity-end.ensures)
 
-pub loop-j-preserved : goal.loop-j-preserved
-loop-j-preserved g c = parities_more g.X.Symbol.plus c.args.change c.args.self.shape c.args.self.column c.args.self.row _ _ _ _ _ _ c.requires (omega arith) c.loop-j.invariant c.in_ok-count.ensures
+pub loop-parity-preserved : goal.loop-parity-preserved
+loop-parity-preserved g c =
+    let p = c.args.self in
+    parities_next g.X.Symbol.plus c.args.change p.shape p.column p.row c.loop-parity.parity _ _ _ _ _ _ c.requires (omega arith) (search rules) (omega arith) c.loop-parity.invariant c.in_ok-count.ensures
 
-pub returns : goal.returns
-returns g c = parities_all g.X.Symbol.plus c.args.change c.args.self.shape c.args.self.column c.args.self.row _ _ _ _ c.requires (omega arith) c.loop-j.invariant
+pub returns-in_ok-count : goal.returns-in_ok-count
+returns-in_ok-count g c =
+    let p = c.args.self in
+    parities_all g.X.Symbol.plus c.args.change p.shape p.column p.row _ _ _ c.requires
+    (parities_next g.X.Symbol.plus c.args.change p.shape p.column p.row c.loop-parity.parity (parities_of p.shape) _ _ _ _ _ c.requires (omega arith) (search rules) (search rules) c.loop-parity.invariant c.in_ok-count.ensures)
