@@ -1,6 +1,5 @@
-use Rattle.std.proofs.Common.{◌≡◌, ℕ, Bool, ◌++◌, string_bytes, ap, ◌∙◌, arith}
+use Rattle.std.proofs.Common.{ℕ, ◌++◌, string_bytes, ap, ◌∙◌}
 use Rattle.symbol.specs.declared.byte.Byte.{Byte}
-use Rattle.frames.specs.Format.{lines}
 use Rattle.report.specs.Printed.{present}
 use Rattle.report.proofs.Kept.{read_more}
 use Rattle.report.proofs.Rows.{lines_more}
