@@ -14,16 +14,11 @@ use Rattle.repair.specs.Rows.{rebuilt}
 use Rattle.repair.proofs.Depends.{differs}
 use Rattle.repair.proofs.Shows.{parity_differs}
 use Rattle.repair.proofs.Slots.{helper_column}
-use Rattle.array.specs.Checks.{Cleared}
 use Rattle.array.proofs.Checked.{wide, long}
 use Rattle.recovery.specs.Rebuild.{is_data, on_list, Rebuilt, TellsApart}
 use Rattle.recovery.proofs.Accepted.{Accepted, data_helpers, parity_helpers}
 
 module _ {X : Type 0} (none : X) (plus : X → X → X) (s : Shape) (f : ℕ) where
-  -- the work area was cleared again
-  pub cleared_again : (g h : View X) (n : ℕ) (work work' : List X) → Rebuilt none plus s f g n h work → Cleared none work' → Rebuilt none plus s f g n h work'
-  cleared_again g h n work work' R clean = record { reads = R.reads; meter = R.meter; columns = R.columns; rows = R.rows; lender = R.lender; present = R.present; marks = R.marks; here = R.here; others = R.others; cleared = clean }
-
   module _ (L : BooleanGroup none plus) (g h g' h' : View X) (n m room : ℕ) (work : List X) (a : Accepted s g f room) (R : Rebuilt none plus s f g n g' work) (Q : Rebuilt none plus s f h m h' work) where
     inside : (c row : ℕ) → 1 ≤ c → c ≤ columns_of s → row < rows_of s → Inside g c row
     inside c row lo hi low = (lo, omega (arith, wide s g a.fit), omega (arith, long s g a.fit))

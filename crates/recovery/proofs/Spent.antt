@@ -1,6 +1,6 @@
 -- From a rebuild with the quotes lent to one that takes them, and hands them back if it is refused.
-use Rattle.std.proofs.Common.{◌≡◌, ℕ, true, List, length, Ok, Err, Result, is_ok, sym, refl, ap, subst}
-use Rattle.std.specs.Result.{MatchResult, IsErrAnd}
+use Rattle.std.proofs.Common.{◌≡◌, ℕ, List, length, Ok, Err, Result, is_ok, sym, refl, ap, subst}
+use Rattle.std.specs.Result.{MatchResult}
 use Rattle.ring.specs.Sums.{BooleanGroup}
 use Rattle.code.specs.declared.refusal.Refusal.{Refusal}
 use Rattle.code.specs.declared.shape.Shape.{Shape}
@@ -13,7 +13,7 @@ use Rattle.recovery.specs.declared.quotes.BothRejected.{BothRejected}
 use Rattle.recovery.specs.Progress.{Spends, SpendsBoth}
 use Rattle.recovery.specs.Rebuild.{Rebuilds, RebuildsBoth}
 use Rattle.recovery.proofs.Accepted.{accepted}
-use Rattle.recovery.proofs.Apart.{cleared_again, told_apart, neither}
+use Rattle.recovery.proofs.Apart.{told_apart, neither}
 use Rattle.recovery.proofs.Books.{rebuilt_keeps}
 use Rattle.recovery.proofs.Recovered.{restores}
 

@@ -43,6 +43,9 @@ pub fn rebuild_both<X: Symbol, S: ColumnStore<X>, T: ColumnStore<X>>(
     ensures book { Keeps X.Symbol.zero X.Symbol.plus array.now.shape (rebuilds first.column) (is_ok result) (S.ColumnStore.view store.old) (S.ColumnStore.view store.new) }
     ensures other_book { Keeps X.Symbol.zero X.Symbol.plus array.now.shape (rebuilds second.column) (is_ok result) (T.ColumnStore.view other.old) (T.ColumnStore.view other.new) }
 {
-    spend_both(array.shape, store, other, &first, &second, work)
-        .map_err(|refusal| BothRejected { refusal, first, second })
+    spend_both(array.shape, store, other, &first, &second, work).map_err(|refusal| BothRejected {
+        refusal,
+        first,
+        second,
+    })
 }

@@ -1,4 +1,4 @@
-use Rattle.std.proofs.Common.{◌≡◌, [], ◌∷◌, ◌++◌, OnOk, string_bytes, rules, arith}
+use Rattle.std.proofs.Common.{◌≡◌, [], ◌∷◌, ◌++◌, OnOk, string_bytes, rules}
 use Rattle.report.proofs.Digits.{hexed, byte_digits, word_digits}
 use Rattle.report.proofs.lines.put_summary.Goals as goal
 
