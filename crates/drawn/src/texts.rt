@@ -16,9 +16,10 @@ fn push_label(text: &mut Vec<u8>, column: usize, row: usize) -> Result<(), Alloc
     requires row { row < 65536 }
     ensures { OnOk result (text.new.items ≡ text.old.items ++ 80 ∷ label column row) }
 {
+    let [high, low] = (row as u16).to_be_bytes();
     let [a, b] = digits(column as u8);
-    let [c, d] = digits((row / 256) as u8);
-    let [e, f] = digits((row % 256) as u8);
+    let [c, d] = digits(high);
+    let [e, f] = digits(low);
     text.extend_from_slice(&[b'P', b' ', a, b, b' ', c, d, e, f, b' '])?;
     Ok(())
 }
