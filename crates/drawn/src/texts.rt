@@ -11,13 +11,11 @@ use std::alloc::{AllocError, Global};
 use symbol::Symbol;
 
 // Appends the mark and the label of a present column's frame.
-fn push_label(text: &mut Vec<u8>, column: usize, row: usize) -> Result<(), AllocError>
-    requires column { column < 256 }
-    requires row { row < 65536 }
+fn push_label(text: &mut Vec<u8>, column: u8, row: u16) -> Result<(), AllocError>
     ensures { OnOk result (text.new.items ≡ text.old.items ++ 80 ∷ label column row) }
 {
-    let [high, low] = (row as u16).to_be_bytes();
-    let [a, b] = digits(column as u8);
+    let [high, low] = row.to_be_bytes();
+    let [a, b] = digits(column);
     let [c, d] = digits(high);
     let [e, f] = digits(low);
     text.extend_from_slice(&[b'P', b' ', a, b, b' ', c, d, e, f, b' '])?;
@@ -38,12 +36,10 @@ fn push_digits<X: Symbol>(text: &mut Vec<u8>, symbol: X) -> Result<(), AllocErro
 // Appends a present column's frame.
 fn push_frame<X: Symbol>(
     text: &mut Vec<u8>,
-    column: usize,
-    row: usize,
+    column: u8,
+    row: u16,
     symbol: X,
 ) -> Result<(), AllocError>
-    requires column { column < 256 }
-    requires row { row < 65536 }
     ensures { OnOk result (text.new.items ≡ text.old.items ++ frame 80 column row (hex (X.Symbol.bytes symbol))) }
 {
     push_label(text, column, row)?;
@@ -60,7 +56,12 @@ pub fn text_of<X: Symbol>(heap: Global, shape: Shape, cells: &[X]) -> Result<Vec
     let mut text = Vec::new(heap);
     for line in 0..shape.columns() * rows {
         let symbol = cells.get(line).copied().unwrap_or(X::zero());
-        push_frame(&mut text, line / rows + 1, line % rows, symbol)?;
+        push_frame(
+            &mut text,
+            (line / rows + 1) as u8,
+            (line % rows) as u16,
+            symbol,
+        )?;
     }
     Ok(text)
 }

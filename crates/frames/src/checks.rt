@@ -17,7 +17,8 @@ fn check_line<X: Symbol>(text: &[u8], rows: usize, line: usize) -> Result<(), Re
 {
     let stride = stride::<X>();
     let at = line * stride;
-    if !is_frame::<X>(&text[at..at + stride], line / rows + 1, line % rows) {
+    let (column, row) = ((line / rows + 1) as u8, (line % rows) as u16);
+    if !is_frame::<X>(&text[at..at + stride], column, row) {
         return Err(Refusal::BadFrame { line: line + 1 });
     }
     let first = line / rows * rows * stride;

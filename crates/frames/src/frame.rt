@@ -18,13 +18,11 @@ pub fn digits(value: u8) -> [u8; 2]
 }
 
 // What stands between the mark and the digits of a place's frame.
-fn label(column: usize, row: usize) -> [u8; 9]
-    requires column { column < 256 }
-    requires row { row < 65536 }
+fn label(column: u8, row: u16) -> [u8; 9]
     ensures { result ≡ label_of column row }
 {
-    let [high, low] = (row as u16).to_be_bytes();
-    let [a, b] = digits(column as u8);
+    let [high, low] = row.to_be_bytes();
+    let [a, b] = digits(column);
     let [c, d] = digits(high);
     let [e, f] = digits(low);
     [b' ', a, b, b' ', c, d, e, f, b' ']
@@ -43,10 +41,8 @@ fn are_digits<X: Symbol>(part: &[u8]) -> bool
 }
 
 // Whether a line is a frame of the column and row.
-pub(crate) fn is_frame<X: Symbol>(line: &[u8], column: usize, row: usize) -> bool
-    requires long { length line.now ≡ stride_of X.Symbol.width }
-    requires column { column < 256 }
-    requires row { row < 65536 }
+pub(crate) fn is_frame<X: Symbol>(line: &[u8], column: u8, row: u16) -> bool
+    requires { length line.now ≡ stride_of X.Symbol.width }
     ensures { result ≡ is_frame_of X.Symbol.width column row line.now }
 {
     let [mark, rest @ .., end] = line else {
