@@ -10,6 +10,7 @@ use code::Shape;
 pub struct Plan {
     pub(crate) shape: Shape,
     pub(crate) lost: usize,
+    // a yes or no, as in the definitions; an enum of two halves would say no more
     pub(crate) first_half: bool,
     pub(crate) depth: usize,
     pub(crate) span: usize,
