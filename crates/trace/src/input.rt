@@ -5,7 +5,7 @@ use code::Shape;
 use recovery::{Quote, lose, quote};
 use runs::Call;
 use std::alloc::Global;
-use std::str::FromStr;
+use std::str::{FromStr, SplitWhitespace};
 use store::{ColumnStore, Table};
 use symbol::{Byte, Symbol};
 
@@ -47,12 +47,12 @@ impl FromStr for Place {
 }
 
 // The next of some words.
-fn next<'a>(words: &mut impl Iterator<Item = &'a str>) -> anyhow::Result<&'a str> {
+fn next<'a>(words: &mut SplitWhitespace<'a>) -> anyhow::Result<&'a str> {
     words.next().ok_or_else(|| anyhow!("a word is missing"))
 }
 
 // The next of them, which is a number.
-fn number<'a>(words: &mut impl Iterator<Item = &'a str>) -> anyhow::Result<usize> {
+fn number(words: &mut SplitWhitespace) -> anyhow::Result<usize> {
     Ok(next(words)?.parse()?)
 }
 
@@ -92,10 +92,7 @@ fn foreign(heap: Global, shape: Shape, column: usize) -> anyhow::Result<Quote> {
 }
 
 // A call, by its letter and its words.
-fn call<'a, X: Symbol>(
-    letter: &str,
-    words: &mut impl Iterator<Item = &'a str>,
-) -> anyhow::Result<Call<X>> {
+fn call<X: Symbol>(letter: &str, words: &mut SplitWhitespace) -> anyhow::Result<Call<X>> {
     match letter {
         "F" => Ok(Call::Found),
         "P" => Ok(Call::Put {

@@ -1,7 +1,7 @@
 // A line of the input.
 use crate::damage::Damage;
 use anyhow::{Error, anyhow};
-use std::str::FromStr;
+use std::str::{FromStr, SplitWhitespace};
 
 // The kind of a text's symbols, named by their width.
 #[derive(Clone, Copy)]
@@ -39,7 +39,7 @@ pub(crate) enum Line {
 }
 
 // The next of a line's words.
-pub(crate) fn next<'a>(words: &mut impl Iterator<Item = &'a str>) -> anyhow::Result<&'a str> {
+fn next<'a>(words: &mut SplitWhitespace<'a>) -> anyhow::Result<&'a str> {
     words.next().ok_or_else(|| anyhow!("a word is missing"))
 }
 

@@ -1,7 +1,7 @@
 use Rattle.std.proofs.Common.{◌≡◌, ◌+◌, ◌/◌, ◌%◌, ap, ◌∙◌, sym}
 use Rattle.code.specs.Shapes.{rows_of}
 use Rattle.route.specs.Readings.{reading_of}
-use Rattle.route.proofs.Readings.{readings_none, readings_more}
+use Rattle.route.proofs.Route.{readings_none, readings_more}
 use Rattle.route.proofs.readings.cells.Goals as goal
 
 pub loop-place-init : goal.loop-place-init
