@@ -1,5 +1,6 @@
 // An array: a shape with a column store, which is meant to have that shape's columns and rows. The store is lent to
-// each call, so that its owner knows what it holds in between.
+// each call, so that its owner knows what it holds in between: an array that owned it would lose that, and one that
+// borrowed it would owe in each call that shape and store stay the same.
 ghost use Rattle.std.specs.Prelude.{◌≡◌};
 ghost use Rattle.array.specs.Book.{new_book, Agrees};
 

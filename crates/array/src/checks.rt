@@ -8,8 +8,9 @@ use code::{Refusal, Shape};
 use store::ColumnStore;
 use symbol::Symbol;
 
-// Whether the store has the shape's columns and rows. That it does is a fact that private calls ask for, and no struct of
-// shape and store: one that is lent on would owe two facts in its place, that its shape and its store stay the same.
+// Whether the store has the shape's columns and rows. That it does, and that a column is there and present, are facts that
+// private calls ask for, and no struct of shape and store: one that is lent on would owe two facts in the place of each, that
+// its shape and its store stay the same.
 pub fn check_fit<X: Symbol, S: ColumnStore<X>>(store: &S, shape: Shape) -> Result<(), Refusal>
     ensures { Fitting shape (S.ColumnStore.view store.now) result }
 {

@@ -25,6 +25,7 @@ fn is_listed(p: usize) -> bool
     )
 }
 
+// Of the three numbers, before they are a shape.
 fn rows_by(k: usize, q: usize, p: usize) -> usize
     requires data { (4 ≤ k) × (k ≤ 12) }
     requires helping { (2 ≤ q) × (q ≤ 4) }

@@ -33,7 +33,7 @@ pub enum Refusal {
     // 9: a frame's mark differs from that of its column's first frame
     #[error("{}: line {line} has another mark than its column", self.number())]
     MarkDiffers { line: usize },
-    // 10: there is no such column or row; the row is 0 where none is named
+    // 10: there is no such column or row; the row is 0 where none is named, as the values that are handed out fix it
     #[error("{}: no column {column}, row {row}", self.number())]
     NoSuchPlace { column: usize, row: usize },
     // 11: the column is lost

@@ -9,7 +9,8 @@ use route::{InWords, Told, cells};
 use store::{ColumnStore, Table};
 use symbol::{Stand, Symbol};
 
-// The first rows of a column.
+// The first rows of a column. A function for this and for the day of `sales` would have to say what reads that are
+// refused half way leave.
 fn tell_column<S: ColumnStore<Stand>>(
     rt: &HostRuntime,
     store: &mut S,

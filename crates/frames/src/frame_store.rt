@@ -57,7 +57,7 @@ impl<'a, X: Symbol> Frames<'a, X> {
         X::read_digits(&self.text[at + 10..end]).unwrap_or(X::zero())
     }
 
-    // Marks a column: all of its lines.
+    // Marks a column: all of its lines. The mark is the byte as the text holds it.
     fn mark(&mut self, column: usize, mark: u8) -> Result<(), Refusal>
         ensures answer { Remarks (frames_view X.Symbol.zero X.Symbol.width X.Symbol.symbol) self.old column mark result self.new }
         ensures bytes { Marks X.Symbol.width self.old column mark result self.new }

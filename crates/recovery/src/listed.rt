@@ -75,7 +75,8 @@ pub(crate) fn collect<X: Symbol, S: ColumnStore<X>>(
     Ok(count)
 }
 
-// All rows of the lost column, out of the work area.
+// All rows of the lost column, out of the work area. What it has in common with writing a parity column would take a
+// closure and ask that it may be called, and no public function asks anything.
 pub(crate) fn restore<X: Symbol, S: ColumnStore<X>>(
     store: &mut S,
     plan: &Plan,

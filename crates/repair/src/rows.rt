@@ -64,6 +64,7 @@ impl Plan {
         if i + 1 == self.lost {
             return X::zero();
         }
+        // The shift of `sums`, which is private there: a public one would answer an Option.
         let from = (position + (self.positions - gap * self.steps[i])) % self.positions;
         self.symbol(work, i + 1, from)
     }

@@ -6,6 +6,7 @@ ghost use Rattle.store.specs.Calls.{Reads, Writes, Drops, Admits};
 use code::Refusal;
 use symbol::Symbol;
 
+// A place is a column and a row: `read(2, 5)` says as much as a struct of both.
 pub trait ColumnStore<X: Symbol> {
     ghost view: { Self → View X };
 

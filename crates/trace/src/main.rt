@@ -68,6 +68,7 @@ fn play_line(rt: &HostRuntime, text: &str) -> anyhow::Result<()> {
     }
 }
 
+// A call of a common loop would be no shorter.
 fn play_all(rt: &HostRuntime) -> anyhow::Result<()> {
     for text in rt.lines(rt.alloc()) {
         play_line(rt, text?.as_str())?;

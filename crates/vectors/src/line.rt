@@ -3,7 +3,7 @@ use crate::damage::Damage;
 use anyhow::{Error, anyhow};
 use std::str::{FromStr, SplitWhitespace};
 
-// The kind of a text's symbols, named by their width.
+// The kind of a text's symbols, named by their width; `trace` names it by words.
 #[derive(Clone, Copy)]
 pub(crate) enum Kind {
     Byte,

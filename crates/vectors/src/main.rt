@@ -145,6 +145,7 @@ fn tell(rt: &HostRuntime, text: &str) -> anyhow::Result<()> {
     }
 }
 
+// A call of a common loop would be no shorter.
 fn tell_all(rt: &HostRuntime) -> anyhow::Result<()> {
     for line in rt.lines(rt.alloc()) {
         tell(rt, line?.as_str())?;
