@@ -11,17 +11,13 @@ use Rattle.code.specs.Parities.{parity_of, takes_in}
 use Rattle.code.proofs.Bounds.{positions_are}
 use Rattle.code.proofs.Changes.{parity_changed}
 use Rattle.store.specs.View.{View, Inside}
-use Rattle.store.specs.Calls.{Reads, Unread}
+use Rattle.store.specs.Calls.{Reads}
 use Rattle.array.specs.Checks.{fits}
-use Rattle.array.specs.Book.{Keeps, puts, looks, with_symbol, put_in, built}
+use Rattle.array.specs.Book.{Keeps, puts, with_symbol, put_in, built}
 use Rattle.array.specs.Steps.{Stepped, Accepts}
-use Rattle.array.proofs.Books.{read_on}
 use Rattle.array.proofs.Checked.{wide, long, is_present}
 use Rattle.updates.specs.Views.{Leaves}
-use Rattle.updates.specs.Updates.{place_refusal, put_symbols, put_reads, Put, Gets, TellsTable}
-
-not_both : true ≡ false → ⊥
-not_both e = let z : ◌≡◌ {A = ℕ} 0 1 = cc in omega arith
+use Rattle.updates.specs.Updates.{place_refusal, put_symbols, put_reads, Put, TellsTable}
 
 -- what the checks of a put or a get that passed say
 pub record Passed {X : Type 0} (s : Shape) (g : View X) (c row : ℕ) : Type 0 where
@@ -36,19 +32,11 @@ placed s g c row h = record { fit = grind (arith, nat_tests); one = grind (arith
 
 module _ {X : Type 0} (none : X) (plus : X → X → X) (s : Shape) where
   -- an accepted get
-  pub got : {S : Type 0} (view : S → View X) (a z : S) (c row : ℕ) (r : Result X Refusal) → place_refusal s (view a) c row ≡ None → Stepped (λ answer. Reads view a c row answer z) r → Gets view s a c row r z × Keeps none plus s looks (is_ok r) (view a) (view z) × TellsTable none plus s (view a) c row r
-  got view a z c row (Ok x) h R = ((h, R.2, R.3), read_on none plus s true 1 (view a) (view z) R.3, λ b A table e. R.2 ∙ A.symbols table e c row (P.one, omega (arith, P.last, wide s (view a) P.fit), omega (arith, P.low, long s (view a) P.fit)) P.present ∙ rw (le-leb c s.k P.last))
-    where
-      P : Passed s (view a) c row
-      P = placed s (view a) c row h
-  got view a z c row (Err e) h R = absurd (unread R.1.0)
-    where
-      P : Passed s (view a) c row
-      P = placed s (view a) c row h
-
-      unread : {e : Refusal} → Unread (view a) c row e → ⊥
-      unread (inl u) = u.0 (P.one, omega (arith, P.last, wide s (view a) P.fit), omega (arith, P.low, long s (view a) P.fit))
-      unread (inr u) = let lost = u.1 in let present = P.present in let z : ◌≡◌ {A = Bool} true false = cc in not_both z
+  pub got : {S : Type 0} (view : S → View X) (a z : S) (c row : ℕ) (r : Result X Refusal) → place_refusal s (view a) c row ≡ None → Stepped (λ answer. Reads view a c row answer z) r → TellsTable none plus s (view a) c row r
+  got view a z c row (Ok x) h R =
+      let P = placed s (view a) c row h in
+      λ b A table e. R.2 ∙ A.symbols table e c row (P.one, omega (arith, P.last, wide s (view a) P.fit), omega (arith, P.low, long s (view a) P.fit)) P.present ∙ rw (le-leb c s.k P.last)
+  got view a z c row (Err e) h R = tt
 
   -- a put sets its place in the data table, and the parities follow
   module _ (L : BooleanGroup none plus) (c row : ℕ) (x : X) (n : ℕ) (g h : View X) (P : Passed s g c row) (W : Put plus s g c row x n h) where

@@ -187,10 +187,6 @@ module _ {X : Type 0} (plus : X → X → X) (δ : X) where
       subst (λ b. Added plus δ (λ d y. leb d (s.k + b) && carries s g c row d y) (sum_to 0 ◌+◌ b (λ a. carried s g c row (s.k + (a + 1)))) g (m + n) h') next
       (parities_more s c row (j - 1) m n g h h' fit (omega arith) A (subst (λ b. Added plus δ (λ d y. eqb d (s.k + b) && carries s h c row d y) (carried s h c row (s.k + b)) h n h') here B))
 
-  -- no parity yet
-  pub parities_none : (s : Shape) (c row : ℕ) (g : View X) → g.meter < 2 ^ 64 → Added plus δ (λ d y. leb d (s.k + 0) && carries s g c row d y) 0 g 0 g
-  parities_none s c row g small = record { reads = refl; leaves = leaves_none (λ d y. leb d (s.k + 0) && carries s g c row d y) g small (λ d y inside. grind (arith, nat_tests)) }
-
   -- all of them
   pub parities_all :
       (s : Shape) (c row m : ℕ) (g h : View X) → fits s g ≡ true →

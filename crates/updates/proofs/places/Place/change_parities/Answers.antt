@@ -1,17 +1,8 @@
 use Rattle.std.proofs.Common.{◌+◌, ◌-◌, arith, rules}
 use Rattle.code.specs.Shapes.{parities_of, rows_of}
 use Rattle.updates.specs.Updates.{carries}
-use Rattle.array.proofs.Checked.{still_fits}
-use Rattle.updates.proofs.Carries.{count_low, carried_low, parities_none, parities_next, parities_all}
+use Rattle.updates.proofs.Carries.{count_low, carried_low, parities_next, parities_all}
 use Rattle.updates.proofs.places.Place.change_parities.Goals as goal
-
-pub loop-parity-init : goal.loop-parity-init
-loop-parity-init g c = parities_none g.X.Symbol.plus c.args.change c.args.self.shape c.args.self.column c.args.self.row _ (g.S.ColumnStore.counted c.args.store.now)
-
-pub change_parity-requires-clause-fits : goal.change_parity-requires-clause-fits
-change_parity-requires-clause-fits g c =
-    let L = c.loop-parity.invariant.leaves in
-    still_fits c.args.self.shape (g.S.ColumnStore.view c.args.store.now) (g.S.ColumnStore.view c.loop-parity.store) c.requires L.columns L.rows
 
 pub overflow_add-count : goal.overflow_add-count
 overflow_add-count g c =

@@ -1,15 +1,7 @@
-use Rattle.std.proofs.Common.{ap, ◌∙◌, arith}
+use Rattle.std.proofs.Common.{arith}
 use Rattle.code.specs.Shapes.{parities_of}
-use Rattle.store.specs.View.{View}
-use Rattle.array.proofs.Checked.{still_fits}
 use Rattle.updates.proofs.Carries.{put_leaves, carried_low}
 use Rattle.updates.proofs.places.Place.replace.Goals as goal
-
-pub change_parities-requires : goal.change_parities-requires
-change_parities-requires g c =
-    let m = c.in_ok-old.ensures.3 in
-    let W = c.in_ok-write.ensures.1 in
-    still_fits c.args.self.shape (g.S.ColumnStore.view c.args.store.now) (g.S.ColumnStore.view c.write.new.store) c.requires.fits (W.columns ∙ ap (λ (v : View _). v.columns) m) (W.rows ∙ ap (λ (v : View _). v.rows) m)
 
 pub overflow_add-result : goal.overflow_add-result
 overflow_add-result g c =
