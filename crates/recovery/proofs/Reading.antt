@@ -1,5 +1,5 @@
 -- One turn more of the loops over the reading list.
-use Rattle.std.proofs.Common.{◌≡◌, ℕ, zero, suc, ◌+◌, ◌*◌, ◌^◌, ◌<◌, ◌≤◌, Bool, true, false, cond, ◌⊎◌, List, length, get_or, set, Some, None, Ok, Err, Option, Result, sym, refl, ap, ◌∙◌, subst, ap₂, inl, inr, mul-le-mul_right, add-one, rules, arith}
+use Rattle.std.proofs.Common.{◌≡◌, ℕ, zero, suc, ◌+◌, ◌-◌, ◌*◌, ◌^◌, ◌<◌, ◌≤◌, Bool, true, false, cond, ◌⊎◌, List, length, get_or, set, Some, None, Ok, Err, Option, Result, sym, refl, ap, ◌∙◌, subst, ap₂, inl, inr, mul-le-mul_right, add-one, rules, arith}
 use borrow.Rule.Slice.PartMut.{put_mid}
 use Rattle.std.proofs.lemmas.Bool.{cases_eq, cases_order, both_ways}
 use Rattle.std.proofs.lemmas.List.{get_or-set_same, get_or-set_other, places}
@@ -109,7 +109,7 @@ module _ {X : Type 0} (none : X) (s : Shape) (f : ℕ) (one : 1 ≤ f) (last : f
       whole : length part ≡ k
       whole = omega arith
 
-  pub collected_more : (g h h' : View X) (n m k : ℕ) (after after' : List X) → Collected none s f g n m h after → Filled none s f h (n + 1) after k h' after' → Collected none s f g (n + 1) (m + k) h' after'
+  collected_more : (g h h' : View X) (n m k : ℕ) (after after' : List X) → Collected none s f g n m h after → Filled none s f h (n + 1) after k h' after' → Collected none s f g (n + 1) (m + k) h' after'
   collected_more g h h' n m k after after' G F = record {
     reads = ap₂ ◌+◌ G.reads F.reads ∙ sym (sum_more 0 ◌+◌ n (λ c. count (rows_of s) (listed s f (c + 1))));
     meter = F.meter ∙ ap (metered k) G.meter ∙ metered_more g m k;
@@ -118,6 +118,12 @@ module _ {X : Type 0} (none : X) (s : Shape) (f : ℕ) (one : 1 ≤ f) (last : f
       | inr e ↦ F.kept c row e (listed_helper c row yes) in_rows ∙ G.here c row (omega arith) in_rows yes
     ];
   }
+
+  pub collected_next : (g h h' : View X) (c n m k : ℕ) (after after' : List X) → 1 ≤ c → n ≡ c → Collected none s f g (c - 1) m h after → Filled none s f h c after k h' after' → Collected none s f g n (m + k) h' after'
+  collected_next g h h' c n m k after after' low last G F =
+      let here : c ≡ c - 1 + 1 = omega arith in
+      let next : c - 1 + 1 ≡ n = omega arith in
+      subst (λ i. Collected none s f g i (m + k) h' after') next (collected_more g h h' (c - 1) m k after after' G (subst (λ d. Filled none s f h d after k h' after') here F))
 
   pub filled_low : (g h : View X) (c k : ℕ) (before after : List X) → Filled none s f g c before k h after → k ≤ 4096
   filled_low g h c k before after F = omega (arith, F.reads, count_le (rows_of s) (listed s f c), s.small)

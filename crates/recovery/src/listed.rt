@@ -69,8 +69,8 @@ pub(crate) fn collect<X: Symbol, S: ColumnStore<X>>(
     ensures { Accepts (λ n. Collected X.Symbol.zero plan.now.shape plan.now.lost (S.ColumnStore.view store.old) (columns_of plan.now.shape) n (S.ColumnStore.view store.new) work.new) result }
 {
     let mut count = 0;
-    for c in 0..plan.shape().columns() {
-        count += fill(store, plan, c + 1, work)?;
+    for column in 1..=plan.shape().columns() {
+        count += fill(store, plan, column, work)?;
     }
     Ok(count)
 }
