@@ -11,15 +11,31 @@ use updates::{get, put};
 
 // What the day is spent with.
 #[derive(Drop)]
-pub(crate) struct Day<'a> {
+pub(crate) struct Day<'a, 't> {
     pub(crate) rt: &'a HostRuntime,
     pub(crate) array: &'a Array,
-    pub(crate) table: Table<'a, Stand>,
+    pub(crate) table: Table<'t, Stand>,
     pub(crate) work: Vec<Stand>,
     pub(crate) book: Book,
 }
 
-impl Day<'_> {
+impl<'a, 't> Day<'a, 't> {
+    pub(crate) fn new(
+        rt: &'a HostRuntime,
+        array: &'a Array,
+        table: Table<'t, Stand>,
+        work: Vec<Stand>,
+        book: Book,
+    ) -> Day<'a, 't> {
+        Day {
+            rt,
+            array,
+            table,
+            work,
+            book,
+        }
+    }
+
     // The first rows of a column.
     pub(crate) fn tell_column(&mut self, column: usize) -> anyhow::Result<()> {
         print!(self.rt; "column {column:2}:")?;

@@ -53,13 +53,8 @@ fn run(rt: &HostRuntime) -> anyhow::Result<()> {
     let meter = table.meter();
     println!(rt; "Founded with {reads} reads; the meter stands at {meter}.")?;
     println!(rt; "Stock and cash of rows 0 to 3:")?;
-    let mut day = Day {
-        rt,
-        array: &array,
-        table,
-        work,
-        book: Book::new(rt.alloc(), shape)?,
-    };
+    let book = Book::new(rt.alloc(), shape)?;
+    let mut day = Day::new(rt, &array, table, work, book);
     for column in 1..=shape.columns() {
         day.tell_column(column)?;
     }
