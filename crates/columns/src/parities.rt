@@ -14,7 +14,8 @@ use store::ColumnStore;
 use sums::ParityRule;
 use symbol::Symbol;
 
-// The rows of a parity column, from the data columns one after another.
+// The rows of a parity column, from the data columns one after another. That the cells have room is asked, and no struct's
+// fact: one of shape and cells would stand beside the rule's shape, and ask that both are the same.
 fn write_rows<X: Symbol, S: ColumnStore<X>>(
     store: &mut S,
     rule: &ParityRule,

@@ -11,22 +11,20 @@ fn sizes(rt: HostRuntime) -> Result<(), Fail> {
     Ok(())
 }
 
-// The number and the values of the refusal of a shape; zeros if there is none.
-fn refusal(k: usize, q: usize, p: usize) -> (u8, [usize; 2]) {
-    match Shape::new(k, q, p) {
-        Ok(_) => (0, [0, 0]),
-        Err(e) => (e.number(), e.values()),
-    }
+// The number and the values of the refusal of a shape.
+fn refusal(k: usize, q: usize, p: usize) -> Option<(u8, [usize; 2])> {
+    let refusal = Shape::new(k, q, p).err()?;
+    Some((refusal.number(), refusal.values()))
 }
 
 #[test]
 fn refused(rt: HostRuntime) {
-    assert_eq!(rt; refusal(3, 2, 7), (1, [3, 0]));
-    assert_eq!(rt; refusal(4, 5, 5), (2, [5, 0]));
-    assert_eq!(rt; refusal(4, 2, 7), (3, [7, 0]));
-    assert_eq!(rt; refusal(4, 4, 3), (4, [3, 0]));
-    assert_eq!(rt; refusal(8, 4, 5), (5, [16384, 0]));
-    assert_eq!(rt; refusal(4, 2, 3), (0, [0, 0]));
+    assert_eq!(rt; refusal(3, 2, 7), Some((1, [3, 0])));
+    assert_eq!(rt; refusal(4, 5, 5), Some((2, [5, 0])));
+    assert_eq!(rt; refusal(4, 2, 7), Some((3, [7, 0])));
+    assert_eq!(rt; refusal(4, 4, 3), Some((4, [3, 0])));
+    assert_eq!(rt; refusal(8, 4, 5), Some((5, [16384, 0])));
+    assert_eq!(rt; refusal(4, 2, 3), None);
 }
 
 // The position of a data column that a parity sums at row 0 of a ring of 12.
