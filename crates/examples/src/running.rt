@@ -34,7 +34,7 @@ fn quotes_in_hand(rt: HostRuntime) -> Result<(), Fail> {
         Call::Rebuild { slot: 1 },
         Call::Get { column: 2, row: 3 },
     ];
-    let mut answers = [None; 8];
+    let mut answers = [Ok(None); 8];
     assert!(rt;
         run(
             &array,
@@ -46,18 +46,18 @@ fn quotes_in_hand(rt: HostRuntime) -> Result<(), Fail> {
         ) == 8
     );
     let [_, _, lost, foreign, empty, quoted, back, got] = answers;
-    assert_eq!(rt; lost, Some(Ok(Answer::Lost)));
-    assert_eq!(rt; foreign, Some(Err(Refusal::CountDiffers { count: 22 })));
-    assert_eq!(rt; empty, None);
+    assert_eq!(rt; lost, Ok(Some(Answer::Lost)));
+    assert_eq!(rt; foreign, Err(Refusal::CountDiffers { count: 22 }));
+    assert_eq!(rt; empty, Ok(None));
     assert_eq!(rt;
         quoted,
-        Some(Ok(Answer::Quoted {
+        Ok(Some(Answer::Quoted {
             column: 2,
             count: 22,
         }))
     );
-    assert_eq!(rt; back, Some(Ok(Answer::Reads(22))));
-    assert_eq!(rt; got, Some(Ok(Answer::Symbol(Byte { value: 7 }))));
+    assert_eq!(rt; back, Ok(Some(Answer::Reads(22))));
+    assert_eq!(rt; got, Ok(Some(Answer::Symbol(Byte { value: 7 }))));
     let [foreign, spent] = hand;
     assert!(rt; foreign.is_some() && spent.is_none());
     Ok(())
@@ -76,10 +76,10 @@ fn room_for_answers(rt: HostRuntime) -> Result<(), Fail> {
         Call::Ask,
         Call::Lose { column: 2 },
     ];
-    let mut answers: [Outcome<Byte>; 2] = [None; 2];
+    let mut answers: [Outcome<Byte>; 2] = [Ok(None); 2];
     assert!(rt; run(&array, &mut table, &mut [], &mut work, &calls, &mut answers) == 2);
     let [_, asked] = answers;
-    assert_eq!(rt; asked, Some(Ok(Answer::Lowest(Some(1)))));
+    assert_eq!(rt; asked, Ok(Some(Answer::Lowest(Some(1)))));
     assert!(rt; !table.is_lost(2));
     Ok(())
 }
