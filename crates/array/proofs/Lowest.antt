@@ -1,5 +1,5 @@
 -- The lowest lost column.
-use Rattle.std.proofs.Common.{◌≡◌, ℕ, zero, suc, ◌+◌, ◌<◌, ◌≤◌, Bool, true, false, cond, Some, None, Option, refl, ap, ◌∙◌, subst, inl, inr, add-one, arith}
+use Rattle.std.proofs.Common.{◌≡◌, ℕ, zero, suc, ◌+◌, ◌<◌, ◌≤◌, Bool, true, false, cond, Some, None, Option, refl, ap, ◌∙◌, subst, inl, inr, arith}
 use Rattle.code.specs.Refusals.{or_else}
 use Rattle.std.proofs.lemmas.Bool.{cases_eq}
 use Rattle.array.specs.Lost.{lowest_lost}
@@ -13,9 +13,6 @@ not_some true n e = absurd (let z : ◌≡◌ {A = ℕ} 0 1 = cc in omega arith)
 not_some false n e = refl
 
 module _ (lost : ℕ → Bool) where
-  pub lowest_more : (n : ℕ) → lowest_lost lost n ≡ None → lost (n + 1) ≡ false → lowest_lost lost (n + 1) ≡ None
-  lowest_more n e h = rw (add-one n, e, h)
-
   pub lowest_here : (n m : ℕ) → n < m → lowest_lost lost n ≡ None → lost (n + 1) ≡ true → lowest_lost lost m ≡ Some (n + 1)
   lowest_here n zero low e h = absurd (omega arith)
   lowest_here n (suc m) low e h = elim (cases_eq n m) [
