@@ -1,17 +1,13 @@
--- What a get and a rebuild from a slot say, as one step of a run.
-use Rattle.std.proofs.Common.{◌≡◌, ℕ, Bool, List, is_ok, Some, None, Ok, Err, Result, sym, refl, ap, ◌∙◌, subst, arith}
-use Rattle.code.specs.declared.refusal.Refusal.{Refusal}
+-- What a rebuild from a slot says, as one step of a run.
+use Rattle.std.proofs.Common.{◌≡◌, ℕ, Bool, List, is_ok, Some, None, Ok, Err, Result, sym, refl, ap, subst}
 use Rattle.code.specs.declared.shape.Shape.{Shape}
 use Rattle.store.specs.View.{View}
-use Rattle.array.specs.Book.{rebuilds, looks, Keeps}
-use Rattle.updates.specs.Updates.{Gets, TellsTable}
+use Rattle.array.specs.Book.{rebuilds, Keeps}
 use Rattle.recovery.specs.Rebuild.{Rebuilds}
 use Rattle.recovery.specs.declared.quotes.Quote.{Quote}
 use Rattle.recovery.specs.declared.quotes.Rejected.{Rejected}
-use Rattle.runs.specs.declared.calls.Call.TheVariants.{Get}
-use Rattle.runs.specs.declared.calls.Answer.TheVariants.{Symbol}
 use Rattle.runs.specs.Hands.{Hand, quote_at, spent}
-use Rattle.runs.specs.Steps.{State, OutcomeOf, state_of, told, told_rebuild, accepted, rebuild_event, RebuildsFrom, Tells, Stepped}
+use Rattle.runs.specs.Steps.{state_of, told_rebuild, accepted, rebuild_event, RebuildsFrom}
 
 module _ {S X : Type 0} (view : S → View X) (none : X) (plus : X → X → X) (s : Shape) where
   -- with no quote in the slot

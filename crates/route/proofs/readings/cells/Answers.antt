@@ -1,4 +1,4 @@
-use Rattle.std.proofs.Common.{◌≡◌, ◌+◌, ◌/◌, ◌%◌, ap, ◌∙◌, sym}
+use Rattle.std.proofs.Common.{◌+◌, ◌/◌, ◌%◌, ap, ◌∙◌, sym}
 use Rattle.code.specs.Shapes.{rows_of}
 use Rattle.route.specs.Readings.{reading_of}
 use Rattle.route.proofs.Route.{readings_none, readings_more}
