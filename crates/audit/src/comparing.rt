@@ -28,6 +28,7 @@ fn compare_rows<X: Symbol, S: ColumnStore<X>>(
     let mut holds = true;
     for row in 0..rule.rows() {
         let symbol = read(store, rule.column(), row)?;
+        // The cells hold the data columns, and the ring each row.
         let sum = rule.sum(cells, row).unwrap();
         holds &= symbol.same(sum);
     }
@@ -47,6 +48,7 @@ pub(crate) fn compare_parities<X: Symbol, S: ColumnStore<X>>(
 {
     let mut holds = true;
     for parity in 1..=shape.parities() {
+        // Each of these numbers is a parity's.
         let rule = ParityRule::of(shape, parity).unwrap();
         holds &= compare_rows(store, &rule, cells)?;
     }

@@ -52,12 +52,13 @@ pub enum Refusal {
     #[error("{}: the store has {columns} columns of {rows} rows", self.number())]
     StoreDiffers { columns: usize, rows: usize },
     // 16: the store refuses a step of an accepted call; its refusal's number is given.
-    // A number and no Refusal: one in another would need a box, and there is no heap here.
+    // A number: a Refusal in it would need a box, and there is no heap; an enum of bare causes says no more than a number.
     #[error("{}: the store refused a step with {number}", self.number())]
     StoreRefused { number: u8 },
 }
 
 impl Refusal {
+    // A line for each case, here and below, is the table of docs/REFUSALS.md.
     pub fn number(self) -> u8
         ensures { result ≡ number_of self }
     {

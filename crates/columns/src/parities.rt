@@ -26,6 +26,7 @@ fn write_rows<X: Symbol, S: ColumnStore<X>>(
     ensures { Accepts (λ _. Refilled (S.ColumnStore.view store.old) (rule.now.shape.k + rule.now.parity) (rows_of rule.now.shape) (parity_of X.Symbol.zero X.Symbol.plus rule.now.shape (symbols_of X.Symbol.zero (rows_of rule.now.shape) cells.now) rule.now.parity) (S.ColumnStore.view store.new)) result }
 {
     for row in 0..rule.rows() {
+        // The cells hold the data columns, and the ring each row.
         let symbol = rule.sum(cells, row).unwrap();
         write(store, rule.column(), row, symbol)?;
     }

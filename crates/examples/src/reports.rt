@@ -59,6 +59,7 @@ fn refuses_texts(rt: HostRuntime) -> Result<(), Fail> {
     let heap = rt.alloc();
     let mut input = input(heap, 0)?;
     assert_eq!(rt; input.len(), 739);
+    assert!(rt; &input[..24] == b"H 04 02 03\nP 01 0000 00\n".as_slice());
     prints(&rt, heap, &input[..738], b"E 07\n")?;
     input[11 + 13] = b'L';
     prints(&rt, heap, &input, b"E 09\n")?;

@@ -12,6 +12,8 @@ fn passes(rt: HostRuntime) -> Result<(), Fail> {
     // All symbols 00 and all columns present.
     let text = text_of::<Byte>(rt.alloc(), shape, &[])?;
     assert_eq!(rt; text.len(), 728);
+    assert!(rt; &text[..26] == b"P 01 0000 00\nP 01 0001 00\n".as_slice());
+    assert!(rt; &text[715..] == b"P 07 0007 00\n".as_slice());
     assert_eq!(rt; check_text::<Byte>(shape, &text), Ok(()));
     Ok(())
 }

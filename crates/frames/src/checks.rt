@@ -35,7 +35,7 @@ fn check_lines<X: Symbol>(text: &[u8], rows: usize, lines: usize) -> Result<(), 
     requires rows { (1 ≤ rows) × (rows ≤ 4096) }
     ensures { Told (lines_refusal rows X.Symbol.width text.now lines) result }
 {
-    // By number: a line's column, row and first line of its column follow from it.
+    // By number: column, row and the column's first line follow from it, and with chunks it would be needed all the same.
     for line in 0..lines {
         check_line::<X>(text, rows, line)?;
     }

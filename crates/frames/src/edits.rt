@@ -6,7 +6,7 @@ ghost use Rattle.frames.specs.Lines.{stride as stride_of, over as put_over, mark
 use crate::lines::stride;
 use symbol::Symbol;
 
-// The digits of a symbol.
+// The digits of a symbol, from a place of the whole text on, which the contract speaks of.
 pub(crate) fn put_digits<X: Symbol>(text: &mut [u8], at: usize, symbol: X)
     requires { at + 2 * X.Symbol.width ≤ length text.old }
     ensures text { text.new ≡ put_over text.old at (hex (X.Symbol.bytes symbol)) }

@@ -48,7 +48,7 @@ impl<'a, X: Symbol> Frames<'a, X> {
         Ok(((column - 1) * self.rows + row) * stride::<X>())
     }
 
-    // The symbol of the line that begins there.
+    // The symbol of the line that begins there. A part in place of the number would be found by it all the same.
     fn symbol(&self, at: usize) -> X
         requires { at + stride_of X.Symbol.width ≤ length self.now.text.now }
         ensures { result ≡ unwrap_or (from_digits X.Symbol.width X.Symbol.symbol (part self.now.text.now (at + 10) (2 * X.Symbol.width))) X.Symbol.zero }

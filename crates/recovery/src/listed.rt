@@ -15,7 +15,7 @@ use repair::Plan;
 use store::ColumnStore;
 use symbol::Symbol;
 
-// The listed rows of a helper into its part of the work area.
+// The listed rows of a helper into its part of the work area. `load_column` of `columns` reads every row and counts none.
 fn fetch<X: Symbol, S: ColumnStore<X>>(
     store: &mut S,
     plan: &Plan,
@@ -57,7 +57,7 @@ fn fill<X: Symbol, S: ColumnStore<X>>(
     fetch(store, plan, column, &mut work[start..start + plan.rows()])
 }
 
-// The whole reading list.
+// The whole reading list. Plan and work area go side by side: a struct of both, lent on, would owe that both stay.
 pub(crate) fn collect<X: Symbol, S: ColumnStore<X>>(
     store: &mut S,
     plan: &Plan,
@@ -88,6 +88,7 @@ pub(crate) fn restore<X: Symbol, S: ColumnStore<X>>(
     ensures { Accepts (λ _. Refilled (S.ColumnStore.view store.old) plan.now.lost (rows_of plan.now.shape) (rebuilt_of X.Symbol.zero X.Symbol.plus plan.now.shape plan.now.lost (area_of X.Symbol.zero plan.now.shape plan.now.lost work.now)) (S.ColumnStore.view store.new)) result }
 {
     for row in 0..plan.rows() {
+        // The work area has room for all helpers, so there is a row.
         let symbol = plan.row(work, row).unwrap();
         write(store, plan.lost(), row, symbol)?;
     }

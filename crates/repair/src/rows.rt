@@ -79,7 +79,8 @@ impl Plan {
         let gap = self.gap(row);
         let position = self.position(row);
         let mut sum = X::zero();
-        // By numbers: a column's number picks its part of the work area, its step, and whether it is the lost one.
+        // By numbers: a column's number picks its part of the work area, its step, and whether it is the lost one. A chain
+        // with `fold` was tried, and two goals stayed open.
         for i in 0..self.shape.k {
             sum = sum.add(self.term(work, i, gap, position));
         }

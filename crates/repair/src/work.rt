@@ -45,6 +45,7 @@ impl Plan {
         requires position { position < positions_of self.now.shape }
         ensures { result ≡ symbol_of X.Symbol.zero X.Symbol.plus self.now.shape (area X.Symbol.zero self.now.shape self.now.lost work.now column) position }
     {
+        // The work area has a part for each helper, so there is a symbol.
         let start = self.slot(column) * self.rows;
         symbol_from(work, start, self.shape.p - 1, self.classes, position).unwrap()
     }

@@ -11,6 +11,7 @@ pub(crate) enum Failure {
     NoMemory(AllocError),
 }
 
+// Written out, here and below: of the `From` that a derive writes, a proof knows nothing.
 impl From<Refusal> for Failure {
     ghost from_gives = { λ refusal failure. failure ≡ Refused refusal };
 

@@ -23,6 +23,7 @@ fn symbol<S: ColumnStore<Byte>>(store: &mut S, column: usize, row: usize) -> Byt
     ensures is { result ≡ (S.ColumnStore.view store.old).at column row }
     ensures view { S.ColumnStore.view store.new ≡ metered 1 (S.ColumnStore.view store.old) }
 {
+    // No place inside a present column is refused.
     store.read(column, row).unwrap()
 }
 
@@ -49,6 +50,7 @@ fn spend<S: ColumnStore<Byte>>(array: &Array, store: &mut S, quote: Quote, work:
     requires { rebuild_refusal array.now.shape (S.ColumnStore.view store.old) quote.column quote.count (length work.old) ≡ None }
     ensures { Rebuilt (byte 0) byte_plus array.now.shape quote.column (S.ColumnStore.view store.old) (count_of array.now.shape quote.column) (S.ColumnStore.view store.new) work.new }
 {
+    // No check refuses it.
     rebuild(array, store, quote, work).unwrap();
 }
 

@@ -1,4 +1,5 @@
-// The quotes in hand. They are taken and put by index: nothing is known of what a slice's `get_mut` wrote.
+// The quotes in hand. They are taken and put by index: nothing is known of what a slice's `get_mut` wrote. A struct of hand
+// and slot would only lend both on.
 ghost use Rattle.std.specs.Prelude.{◌≡◌};
 ghost use Rattle.runs.specs.Hands.{quote_at, without, holding};
 

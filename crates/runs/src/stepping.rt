@@ -22,6 +22,7 @@ pub fn step<X: Symbol, S: ColumnStore<X>>(
 ) -> Outcome<X>
     ensures { Stepped S.ColumnStore.view X.Symbol.zero X.Symbol.plus array.now.shape call (state_of store.old hand.old work.old) result (state_of store.new hand.new work.new) }
 {
+    // A run is a list of calls, which the law speaks of as values.
     match call {
         Call::Found => Ok(Some(Answer::Reads(found(array, store, work)?))),
         Call::Put {

@@ -3,7 +3,7 @@ use code::Shape;
 use route::reading;
 use std::alloc::{AllocError, Global};
 use std::collections::{BTreeMap, BTreeSet};
-use symbol::{Stand, Symbol};
+use symbol::Stand;
 
 #[derive(Drop)]
 pub(crate) struct Book {
@@ -37,11 +37,9 @@ impl Book {
         Ok(())
     }
 
-    pub(crate) fn reading(&self, column: usize, row: usize) -> Stand {
-        self.readings
-            .get(&(column, row))
-            .copied()
-            .unwrap_or(Stand::zero())
+    // None where the route has no machine.
+    pub(crate) fn reading(&self, column: usize, row: usize) -> Option<Stand> {
+        self.readings.get(&(column, row)).copied()
     }
 
     pub(crate) fn lose(&mut self, column: usize) -> Result<(), AllocError> {

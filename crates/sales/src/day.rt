@@ -12,11 +12,11 @@ use updates::{get, put};
 // What the day is spent with.
 #[derive(Drop)]
 pub(crate) struct Day<'a, 't> {
-    pub(crate) rt: &'a HostRuntime,
-    pub(crate) array: &'a Array,
-    pub(crate) table: Table<'t, Stand>,
-    pub(crate) work: Vec<Stand>,
-    pub(crate) book: Book,
+    rt: &'a HostRuntime,
+    array: &'a Array,
+    table: Table<'t, Stand>,
+    work: Vec<Stand>,
+    book: Book,
 }
 
 impl<'a, 't> Day<'a, 't> {
@@ -78,7 +78,11 @@ impl<'a, 't> Day<'a, 't> {
 
     // One place, as the array gives it and as the book has it.
     pub(crate) fn tell_place(&mut self, column: usize, row: usize) -> anyhow::Result<()> {
-        let noted = Told(self.book.reading(column, row));
+        let noted = self
+            .book
+            .reading(column, row)
+            .map(Told)
+            .ok_or_else(|| anyhow!("the book has no such machine"))?;
         print!(self.rt; "column {column}, row {row}: book {noted}, ")?;
         match get(self.array, &mut self.table, column, row) {
             Ok(stand) => {

@@ -44,7 +44,7 @@ pub fn symbol_at<X: Symbol>(shape: Shape, column: &[X], position: usize) -> Opti
 }
 
 // The symbol at a position of the column of `blocks` times `classes` rows that begins at `start`; none if the cells do not
-// hold its rows, or the ring has no such position.
+// hold its rows, or the ring has no such position. The start stands beside the cells, since every start has an answer.
 pub fn symbol_from<X: Symbol>(
     cells: &[X],
     start: usize,

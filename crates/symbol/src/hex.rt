@@ -51,6 +51,7 @@ pub(crate) fn write_hex(bytes: &[u8], part: &mut [u8]) -> Result<(), WrongLength
     if part.len() != 2 * bytes.len() {
         return Err(WrongLength);
     }
+    // By index, for the same reason.
     for (i, byte) in bytes.iter().enumerate() {
         part[2 * i] = digit(byte / 16);
         part[2 * i + 1] = digit(byte % 16);

@@ -5,7 +5,7 @@ use code::Shape;
 use recovery::{Quote, lose, quote};
 use runs::Call;
 use std::alloc::Global;
-use std::str::{FromStr, SplitWhitespace};
+use std::str::FromStr;
 use store::{ColumnStore, Table};
 use symbol::{Byte, Symbol};
 
@@ -15,45 +15,11 @@ pub(crate) enum Kind {
     Stand,
 }
 
-impl FromStr for Kind {
-    type Err = Error;
-
-    fn from_str(word: &str) -> Result<Kind, Error> {
-        match word {
-            "byte" => Ok(Kind::Byte),
-            "stand" => Ok(Kind::Stand),
-            _ => Err(anyhow!("there is no kind {word}")),
-        }
-    }
-}
-
 // Where the array lies.
 #[derive(Clone, Copy)]
 pub(crate) enum Place {
     Table,
     Text,
-}
-
-impl FromStr for Place {
-    type Err = Error;
-
-    fn from_str(word: &str) -> Result<Place, Error> {
-        match word {
-            "table" => Ok(Place::Table),
-            "text" => Ok(Place::Text),
-            _ => Err(anyhow!("there is no store {word}")),
-        }
-    }
-}
-
-// The next of some words.
-fn next<'a>(words: &mut SplitWhitespace<'a>) -> anyhow::Result<&'a str> {
-    words.next().ok_or_else(|| anyhow!("a word is missing"))
-}
-
-// The next of them, which is a number.
-fn number(words: &mut SplitWhitespace) -> anyhow::Result<usize> {
-    Ok(next(words)?.parse()?)
 }
 
 #[derive(Clone, Copy)]
@@ -64,22 +30,42 @@ pub(crate) struct Head {
     pub(crate) seed: u32,
 }
 
+// `stand` and `text` are named; any other word is for bytes, or for a table. A number that is missing is 0.
 impl FromStr for Head {
     type Err = Error;
 
     fn from_str(text: &str) -> Result<Head, Error> {
         let mut words = text.split_whitespace();
+        let kind = match words.next() {
+            Some("stand") => Kind::Stand,
+            _ => Kind::Byte,
+        };
+        let place = match words.next() {
+            Some("text") => Place::Text,
+            _ => Place::Table,
+        };
+        let mut numbers = [0; 4];
+        for (number, word) in numbers.iter_mut().zip(words) {
+            *number = word.parse::<u32>()?;
+        }
+        let [k, q, p, seed] = numbers;
+        let shape = Shape::new(k as usize, q as usize, p as usize)?;
         Ok(Head {
-            kind: next(&mut words)?.parse()?,
-            place: next(&mut words)?.parse()?,
-            shape: Shape::new(
-                number(&mut words)?,
-                number(&mut words)?,
-                number(&mut words)?,
-            )?,
-            seed: next(&mut words)?.parse()?,
+            kind,
+            place,
+            shape,
+            seed,
         })
     }
+}
+
+// The numbers of a call; one that is missing is 0.
+fn numbers(text: &str) -> anyhow::Result<[usize; 5]> {
+    let mut numbers = [0; 5];
+    for (number, word) in numbers.iter_mut().zip(text.split_whitespace()) {
+        *number = word.parse::<usize>()?;
+    }
+    Ok(numbers)
 }
 
 // A quote of another array, of zeros.
@@ -91,34 +77,37 @@ fn foreign(heap: Global, shape: Shape, column: usize) -> anyhow::Result<Quote> {
     Ok(quote(&array, &table, column)?)
 }
 
-// A call, by its letter and its words.
-fn call<X: Symbol>(letter: &str, words: &mut SplitWhitespace) -> anyhow::Result<Call<X>> {
+// A put: column, row and digits.
+fn put_call<X: Symbol>(text: &str) -> anyhow::Result<Call<X>> {
+    let mut words = text.split_whitespace();
+    let (Some(column), Some(row), Some(digits)) = (words.next(), words.next(), words.next()) else {
+        return Err(anyhow!("a put has a column, a row and digits"));
+    };
+    let symbol = X::read_digits(digits.as_bytes()).ok_or_else(|| anyhow!(
+        "these are no digits of a symbol"
+    ))?;
+    Ok(Call::Put {
+        column: column.parse::<usize>()?,
+        row: row.parse::<usize>()?,
+        symbol,
+    })
+}
+
+// A call, by its letter and numbers. Calls are values that the law of runs speaks of, so a letter becomes one of them.
+fn call<X: Symbol>(letter: &str, text: &str) -> anyhow::Result<Call<X>> {
+    if letter == "P" {
+        return put_call(text);
+    }
+    let [a, b, ..] = numbers(text)?;
     match letter {
         "F" => Ok(Call::Found),
-        "P" => Ok(Call::Put {
-            column: number(words)?,
-            row: number(words)?,
-            symbol: X::read_digits(next(words)?.as_bytes()).ok_or_else(|| anyhow!(
-                "these are no digits of a symbol"
-            ))?,
-        }),
-        "G" => Ok(Call::Get {
-            column: number(words)?,
-            row: number(words)?,
-        }),
-        "L" => Ok(Call::Lose {
-            column: number(words)?,
-        }),
-        "Q" => Ok(Call::Quote {
-            column: number(words)?,
-            slot: number(words)?,
-        }),
-        "B" => Ok(Call::Rebuild {
-            slot: number(words)?,
-        }),
+        "G" => Ok(Call::Get { column: a, row: b }),
+        "L" => Ok(Call::Lose { column: a }),
+        "Q" => Ok(Call::Quote { column: a, slot: b }),
+        "B" => Ok(Call::Rebuild { slot: a }),
         "A" => Ok(Call::Audit),
         "?" => Ok(Call::Ask),
-        _ => Err(anyhow!("there is no call {letter}")),
+        _ => Err(anyhow!("there is no such call")),
     }
 }
 
@@ -130,21 +119,17 @@ pub(crate) fn calls<X: Symbol>(
 ) -> anyhow::Result<Vec<Call<X>>> {
     let mut calls = Vec::new(heap);
     for part in text.split(';') {
-        let mut words = part.split_whitespace();
-        match words.next() {
-            None => {}
-            Some("X") => {
-                let shape = Shape::new(
-                    number(&mut words)?,
-                    number(&mut words)?,
-                    number(&mut words)?,
-                )?;
-                let given = foreign(heap, shape, number(&mut words)?)?;
-                if let Some(place) = hand.get_mut(number(&mut words)?) {
+        let (letter, rest) = part.split_once(' ').unwrap_or((part, ""));
+        match letter {
+            "" => {}
+            "X" => {
+                let [k, q, p, column, slot] = numbers(rest)?;
+                let given = foreign(heap, Shape::new(k, q, p)?, column)?;
+                if let Some(place) = hand.get_mut(slot) {
                     *place = Some(given);
                 }
             }
-            Some(letter) => calls.push(call(letter, &mut words)?)?,
+            letter => calls.push(call(letter, rest)?)?,
         }
     }
     Ok(calls)

@@ -60,15 +60,15 @@ fn play<X: Symbol>(rt: &HostRuntime, head: Head, rest: &str) -> anyhow::Result<(
 // One line of the input.
 fn play_line(rt: &HostRuntime, text: &str) -> anyhow::Result<()> {
     let (head, rest) = text.split_once(';').unwrap_or((text, ""));
+    let read: Head = head.parse()?;
     println!(rt; "{head}")?;
-    let head: Head = head.parse()?;
-    match head.kind {
-        Kind::Byte => play::<Byte>(rt, head, rest),
-        Kind::Stand => play::<Stand>(rt, head, rest),
+    match read.kind {
+        Kind::Byte => play::<Byte>(rt, read, rest),
+        Kind::Stand => play::<Stand>(rt, read, rest),
     }
 }
 
-// A call of a common loop would be no shorter.
+// `vectors` has this loop too: a call of a shared one would be no shorter.
 fn play_all(rt: &HostRuntime) -> anyhow::Result<()> {
     for text in rt.lines(rt.alloc()) {
         play_line(rt, text?.as_str())?;

@@ -43,7 +43,8 @@ impl Place {
         self.shape.rows() + self.row % self.shape.classes()
     }
 
-    // The positions of a parity at which the row and that extra symbol are summed.
+    // The positions of a parity at which the row and that extra symbol are summed. A parity goes by its number here: a rule
+    // would work out all shifts for the one that is asked.
     fn positions(self, parity: usize) -> (usize, usize)
         requires { (1 ≤ parity) × (parity ≤ parities_of self.shape) }
         ensures row { result.0 ≡ direct self.shape parity self.column self.row }

@@ -1,5 +1,4 @@
 // What is done to a text.
-use anyhow::{Error, anyhow};
 use std::alloc::{AllocError, Global};
 
 #[derive(Clone, Copy)]
@@ -16,24 +15,21 @@ pub(crate) enum Damage {
     Lost { column: usize },
 }
 
-// Which it is, and its numbers.
-impl TryFrom<[usize; 3]> for Damage {
-    type Error = Error;
-
-    fn try_from([which, a, b]: [usize; 3]) -> Result<Damage, Error> {
-        match which {
-            0 => Ok(Damage::Byte {
-                at: a,
-                byte: u8::try_from(b)?,
-            }),
-            1 => Ok(Damage::Cut { length: a }),
-            2 => Ok(Damage::Newlines { count: a }),
-            3 => Ok(Damage::Swap {
-                first: a,
-                second: b,
-            }),
-            4 => Ok(Damage::Lost { column: a }),
-            _ => Err(anyhow!("there is no damage {which}")),
+// By its number and two more.
+impl From<[u32; 3]> for Damage {
+    fn from([what, a, b]: [u32; 3]) -> Damage {
+        match what {
+            0 => Damage::Byte {
+                at: a as usize,
+                byte: (b % 256) as u8,
+            },
+            1 => Damage::Cut { length: a as usize },
+            2 => Damage::Newlines { count: a as usize },
+            3 => Damage::Swap {
+                first: a as usize,
+                second: b as usize,
+            },
+            _ => Damage::Lost { column: a as usize },
         }
     }
 }
@@ -46,6 +42,7 @@ fn swapped(
     first: usize,
     second: usize,
 ) -> Result<Vec<u8>, AllocError> {
+    // `chunks` asks for a length of at least 1.
     let mut lines: Vec<&[u8]> = text.chunks(stride.max(1)).collect(heap)?;
     if first < lines.len() && second < lines.len() {
         lines.swap(first, second);
@@ -69,11 +66,7 @@ impl Damage {
                 }
             }
             Damage::Cut { length } => text.truncate(length),
-            Damage::Newlines { count } => {
-                for _ in 0..count {
-                    text.push(b'\n')?;
-                }
-            }
+            Damage::Newlines { count } => text.resize(text.len().saturating_add(count), b'\n')?,
             Damage::Swap { first, second } => *text = swapped(heap, text, stride, first, second)?,
             Damage::Lost { column } => {
                 let before = column.saturating_sub(1).saturating_mul(rows);

@@ -8,7 +8,7 @@ mod damage;
 mod line;
 
 use crate::damage::Damage;
-use crate::line::{Kind, Line};
+use crate::line::{Kind, numbers};
 use anyhow::anyhow;
 use array::Array;
 use code::{Refusal, Shape};
@@ -72,6 +72,7 @@ fn in_table<X: Symbol>(
 ) -> anyhow::Result<()> {
     let reads = found_in(shape, cells, work)?;
     println!(rt; " {reads} reads")?;
+    // `chunks` asks for a length of at least 1.
     for column in cells.chunks(shape.rows().max(1)).skip(shape.k) {
         tell_column(rt, column)?;
     }
@@ -106,7 +107,9 @@ fn tell_check<X: Symbol>(rt: &HostRuntime, damage: Damage) -> anyhow::Result<()>
     let shape = Shape::new(4, 2, 3)?;
     let cells = Random(77).array::<X>(rt.alloc(), shape)?;
     let mut text = text_of(rt.alloc(), shape, &cells)?;
-    damage.apply(rt.alloc(), &mut text, 11 + 2 * X::width(), shape.rows())?;
+    // A line has 11 bytes beside the digits of its symbol.
+    let stride = 11 + 2 * X::width();
+    damage.apply(rt.alloc(), &mut text, stride, shape.rows())?;
     if let Err(refusal) = check::<X>(shape, &text) {
         println!(rt; " refused, {refusal}")?;
         return Ok(());
@@ -119,33 +122,39 @@ fn tell_check<X: Symbol>(rt: &HostRuntime, damage: Damage) -> anyhow::Result<()>
     Ok(())
 }
 
-fn tell(rt: &HostRuntime, text: &str) -> anyhow::Result<()> {
-    match text.parse()? {
-        Line::Array { k, q, p, seed } => {
-            println!(rt; "{k} {q} {p}")?;
-            match Shape::new(k, q, p) {
-                Ok(shape) => {
-                    tell_array::<Byte>(rt, shape, seed)?;
-                    tell_array::<Stand>(rt, shape, seed)
-                }
-                Err(refusal) => {
-                    println!(rt; " refused, {refusal}")?;
-                    Ok(())
-                }
-            }
+// An array of each kind, if there is such a shape.
+fn tell_arrays(rt: &HostRuntime, [k, q, p, seed]: [u32; 4]) -> anyhow::Result<()> {
+    println!(rt; "{k} {q} {p}")?;
+    match Shape::new(k as usize, q as usize, p as usize) {
+        Ok(shape) => {
+            tell_array::<Byte>(rt, shape, seed)?;
+            tell_array::<Stand>(rt, shape, seed)
         }
-        Line::Text { kind, damage } => {
-            let rest = text.strip_prefix("text ").unwrap_or(text);
-            println!(rt; "{rest}")?;
-            match kind {
-                Kind::Byte => tell_check::<Byte>(rt, damage),
-                Kind::Stand => tell_check::<Stand>(rt, damage),
-            }
+        Err(refusal) => {
+            println!(rt; " refused, {refusal}")?;
+            Ok(())
         }
     }
 }
 
-// A call of a common loop would be no shorter.
+// A damaged text of one kind.
+fn tell_text(rt: &HostRuntime, [width, what, a, b]: [u32; 4]) -> anyhow::Result<()> {
+    println!(rt; "{width} {what} {a} {b}")?;
+    let damage = Damage::from([what, a, b]);
+    match Kind::from(width) {
+        Kind::Byte => tell_check::<Byte>(rt, damage),
+        Kind::Stand => tell_check::<Stand>(rt, damage),
+    }
+}
+
+fn tell(rt: &HostRuntime, line: &str) -> anyhow::Result<()> {
+    match line.strip_prefix("text ") {
+        Some(rest) => tell_text(rt, numbers(rest)?),
+        None => tell_arrays(rt, numbers(line)?),
+    }
+}
+
+// `trace` has this loop too: a call of a shared one would be no shorter.
 fn tell_all(rt: &HostRuntime) -> anyhow::Result<()> {
     for line in rt.lines(rt.alloc()) {
         tell(rt, line?.as_str())?;
