@@ -5,7 +5,8 @@ use code::Shape;
 use recovery::{Quote, lose, quote};
 use runs::Call;
 use std::alloc::Global;
-use std::str::FromStr;
+use std::num::ParseIntError;
+use std::str::{FromStr, SplitWhitespace};
 use store::{ColumnStore, Table};
 use symbol::{Byte, Symbol};
 
@@ -30,6 +31,15 @@ pub(crate) struct Head {
     pub(crate) seed: u32,
 }
 
+// The first of some words as numbers; one that is missing is 0. `vectors` reads its lines so too, in as few words.
+fn numbers<const N: usize>(words: SplitWhitespace) -> Result<[usize; N], ParseIntError> {
+    let mut numbers = [0; N];
+    for (number, word) in numbers.iter_mut().zip(words) {
+        *number = word.parse::<usize>()?;
+    }
+    Ok(numbers)
+}
+
 // `stand` and `text` are named; any other word is for bytes, or for a table. A number that is missing is 0.
 impl FromStr for Head {
     type Err = Error;
@@ -44,28 +54,14 @@ impl FromStr for Head {
             Some("text") => Place::Text,
             _ => Place::Table,
         };
-        let mut numbers = [0; 4];
-        for (number, word) in numbers.iter_mut().zip(words) {
-            *number = word.parse::<u32>()?;
-        }
-        let [k, q, p, seed] = numbers;
-        let shape = Shape::new(k as usize, q as usize, p as usize)?;
+        let [k, q, p, seed] = numbers(words)?;
         Ok(Head {
             kind,
             place,
-            shape,
-            seed,
+            shape: Shape::new(k, q, p)?,
+            seed: u32::try_from(seed)?,
         })
     }
-}
-
-// The numbers of a call; one that is missing is 0.
-fn numbers(text: &str) -> anyhow::Result<[usize; 5]> {
-    let mut numbers = [0; 5];
-    for (number, word) in numbers.iter_mut().zip(text.split_whitespace()) {
-        *number = word.parse::<usize>()?;
-    }
-    Ok(numbers)
 }
 
 // A quote of another array, of zeros.
@@ -98,7 +94,7 @@ fn call<X: Symbol>(letter: &str, text: &str) -> anyhow::Result<Call<X>> {
     if letter == "P" {
         return put_call(text);
     }
-    let [a, b, ..] = numbers(text)?;
+    let [a, b, _, _, _] = numbers(text.split_whitespace())?;
     match letter {
         "F" => Ok(Call::Found),
         "G" => Ok(Call::Get { column: a, row: b }),
@@ -123,7 +119,7 @@ pub(crate) fn calls<X: Symbol>(
         match letter {
             "" => {}
             "X" => {
-                let [k, q, p, column, slot] = numbers(rest)?;
+                let [k, q, p, column, slot] = numbers(rest.split_whitespace())?;
                 let given = foreign(heap, Shape::new(k, q, p)?, column)?;
                 if let Some(place) = hand.get_mut(slot) {
                     *place = Some(given);
