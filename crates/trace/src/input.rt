@@ -54,7 +54,7 @@ impl FromStr for Head {
             Some("text") => Place::Text,
             _ => Place::Table,
         };
-        let [k, q, p, seed] = numbers(words)?;
+        let [k, q, p, seed] = numbers::<4>(words)?;
         Ok(Head {
             kind,
             place,
@@ -94,7 +94,7 @@ fn call<X: Symbol>(letter: &str, text: &str) -> anyhow::Result<Call<X>> {
     if letter == "P" {
         return put_call(text);
     }
-    let [a, b, _, _, _] = numbers(text.split_whitespace())?;
+    let [a, b, _, _, _] = numbers::<5>(text.split_whitespace())?;
     match letter {
         "F" => Ok(Call::Found),
         "G" => Ok(Call::Get { column: a, row: b }),
@@ -119,7 +119,7 @@ pub(crate) fn calls<X: Symbol>(
         match letter {
             "" => {}
             "X" => {
-                let [k, q, p, column, slot] = numbers(rest.split_whitespace())?;
+                let [k, q, p, column, slot] = numbers::<5>(rest.split_whitespace())?;
                 let given = foreign(heap, Shape::new(k, q, p)?, column)?;
                 if let Some(place) = hand.get_mut(slot) {
                     *place = Some(given);
