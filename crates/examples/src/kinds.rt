@@ -1,34 +1,65 @@
 // Examples of each kind: its digits and bytes both ways, what is refused, edge values and sums.
+use std::fmt::Debug;
+use std::process::Abort;
 use symbol::{Byte, Stand, Symbol, WrongLength};
+
+// These are a symbol's digits, both ways.
+fn digits<X: Symbol + Debug, const N: usize>(rt: &impl Abort, x: X, text: [u8; N]) {
+    assert_eq!(rt; X::read_digits(&text), Some(x));
+    let mut part = [0u8; N];
+    assert_eq!(rt; x.write_digits(&mut part), Ok(()));
+    assert_eq!(rt; part, text);
+}
+
+// None of these texts and bytes is read, and a symbol is not written over this part.
+fn refuses<X: Symbol + Debug, const N: usize>(
+    rt: &impl Abort,
+    x: X,
+    texts: &[&[u8]],
+    bytes: &[u8],
+    part: [u8; N],
+) {
+    for text in texts {
+        assert_eq!(rt; X::read_digits(text), None, "the text {text:?}");
+    }
+    assert_eq!(rt; X::read_bytes(bytes), None);
+    let mut kept = part;
+    assert_eq!(rt; x.write_digits(&mut kept), Err(WrongLength));
+    assert_eq!(rt; x.write_bytes(&mut kept), Err(WrongLength));
+    assert_eq!(rt; kept, part);
+}
+
+// Two symbols that differ have this sum, and one added to itself gives zero.
+fn sums<X: Symbol + Debug>(rt: &impl Abort, x: X, y: X, sum: X) {
+    assert_eq!(rt; x.add(y), sum);
+    assert_eq!(rt; x.add(x), X::zero());
+    assert!(rt; x.same(x) && !x.same(y));
+}
 
 #[test]
 fn byte_digits(rt: HostRuntime) {
-    let x = Byte { value: 0x5A };
-    assert_eq!(rt; Byte::read_digits(b"5A"), Some(x));
-    let mut part = [0u8; 2];
-    assert_eq!(rt; x.write_digits(&mut part), Ok(()));
-    assert_eq!(rt; part, *b"5A");
+    digits(&rt, Byte { value: 0x5A }, *b"5A");
 }
 
 #[test]
 fn byte_refuses(rt: HostRuntime) {
-    assert_eq!(rt; Byte::read_digits(b"5a"), None);
-    assert_eq!(rt; Byte::read_digits(b"5"), None);
-    assert_eq!(rt; Byte::read_digits(b"5A0"), None);
-    assert_eq!(rt; Byte::read_bytes(&[1, 2]), None);
-    let mut part = [7u8; 3];
-    assert_eq!(rt; Byte { value: 1 }.write_digits(&mut part), Err(WrongLength));
-    assert_eq!(rt; Byte { value: 1 }.write_bytes(&mut part), Err(WrongLength));
-    assert_eq!(rt; part, [7, 7, 7]);
+    refuses(
+        &rt,
+        Byte { value: 1 },
+        &[b"5a", b"5", b"5A0"],
+        &[1, 2],
+        [7; 3],
+    );
 }
 
 #[test]
 fn byte_sums(rt: HostRuntime) {
-    let x = Byte { value: 0x5A };
-    let y = Byte { value: 0xFF };
-    assert_eq!(rt; x.add(y), Byte { value: 0xA5 });
-    assert_eq!(rt; x.add(x), Byte::zero());
-    assert!(rt; x.same(x) && !x.same(y));
+    sums(
+        &rt,
+        Byte { value: 0x5A },
+        Byte { value: 0xFF },
+        Byte { value: 0xA5 },
+    );
 }
 
 #[test]
@@ -49,10 +80,7 @@ fn stand_digits(rt: HostRuntime) {
         stock: 0x0102,
         cash: 0x03040506,
     };
-    assert_eq!(rt; Stand::read_digits(b"010203040506"), Some(x));
-    let mut part = [0u8; 12];
-    assert_eq!(rt; x.write_digits(&mut part), Ok(()));
-    assert_eq!(rt; part, *b"010203040506");
+    digits(&rt, x, *b"010203040506");
 }
 
 #[test]
@@ -72,13 +100,13 @@ fn stand_edges(rt: HostRuntime) {
 
 #[test]
 fn stand_refuses(rt: HostRuntime) {
-    assert_eq!(rt; Stand::read_digits(b"01020304050a"), None);
-    assert_eq!(rt; Stand::read_digits(b"01020304050"), None);
-    assert_eq!(rt; Stand::read_bytes(&[1, 2, 3, 4, 5]), None);
-    let mut part = [7u8; 5];
-    assert_eq!(rt; Stand::zero().write_digits(&mut part), Err(WrongLength));
-    assert_eq!(rt; Stand::zero().write_bytes(&mut part), Err(WrongLength));
-    assert_eq!(rt; part, [7, 7, 7, 7, 7]);
+    refuses(
+        &rt,
+        Stand::zero(),
+        &[b"01020304050a", b"01020304050"],
+        &[1, 2, 3, 4, 5],
+        [7; 5],
+    );
 }
 
 #[test]
@@ -95,9 +123,7 @@ fn stand_sums(rt: HostRuntime) {
         stock: 65280,
         cash: 4294967294,
     };
-    assert_eq!(rt; x.add(y), sum);
-    assert_eq!(rt; x.add(x), Stand::zero());
-    assert!(rt; x.same(x) && !x.same(y));
+    sums(&rt, x, y, sum);
     assert!(rt;
         !x.same(Stand {
             stock: 65535,

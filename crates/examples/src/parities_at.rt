@@ -4,6 +4,10 @@ use std::test::Fail;
 use sums::{ParityRule, symbol_at};
 use symbol::Byte;
 
+fn rule(shape: Shape, parity: usize) -> Result<ParityRule, Fail> {
+    ParityRule::of(shape, parity).ok_or_else(|| Fail::new(format_args!("no parity {parity}")))
+}
+
 #[test]
 fn positions(rt: HostRuntime) -> Result<(), Fail> {
     let shape = Shape::new(4, 2, 3)?;
@@ -32,9 +36,7 @@ fn parities(rt: HostRuntime) -> Result<(), Fail> {
     cells[8] = Byte { value: 2 };
     cells[16] = Byte { value: 4 };
     cells[24] = Byte { value: 8 };
-    let Some(first) = ParityRule::of(shape, 1) else {
-        return Err(Fail::new("no parity 1"));
-    };
+    let first = rule(shape, 1)?;
     assert_eq!(rt; first.sum(&cells, 0), Some(Byte { value: 15 }));
     assert_eq!(rt; first.sum(&cells, 12), None);
     assert_eq!(rt; first.sum(&cells[0..31], 0), None);
@@ -54,9 +56,7 @@ fn extra_symbols(rt: HostRuntime) -> Result<(), Fail> {
     cells[16] = Byte { value: 16 };
     cells[20] = Byte { value: 32 };
     cells[24] = Byte { value: 64 };
-    let Some(second) = ParityRule::of(shape, 2) else {
-        return Err(Fail::new("no parity 2"));
-    };
+    let second = rule(shape, 2)?;
     assert_eq!(rt; second.sum(&cells, 0), Some(Byte { value: 127 }));
     Ok(())
 }

@@ -2,8 +2,9 @@
 ghost use Rattle.std.specs.Prelude.{◌≡◌};
 
 use code::Refusal;
+use thiserror::Error;
 
-#[derive(Drop)]
+#[derive(Debug, Drop)]
 pub struct Quote {
     pub(crate) column: usize,
     pub(crate) count: usize,
@@ -26,14 +27,16 @@ impl Quote {
 }
 
 // A refused rebuild hands the quote back.
-#[derive(Drop)]
+#[derive(Debug, Drop, Error)]
+#[error("{refusal}")]
 pub struct Rejected {
     pub refusal: Refusal,
     pub quote: Quote,
 }
 
 // Refused rebuilds of two arrays hand both quotes back.
-#[derive(Drop)]
+#[derive(Debug, Drop, Error)]
+#[error("{refusal}")]
 pub struct BothRejected {
     pub refusal: Refusal,
     pub first: Quote,
