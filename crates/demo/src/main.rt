@@ -42,7 +42,7 @@ fn tell_rebuild<S: ColumnStore<Stand>>(
         "Board {lost} dies. Its column is quoted at {count} reads; whole columns would take {whole}."
     )?;
     let before = store.meter();
-    rebuild(array, store, quote, work).map_err(|rejected| rejected.refusal)?;
+    rebuild(array, store, quote, work)?;
     let moved = store.meter().wrapping_sub(before);
     println!(rt; "Rebuilt; the meter moved by {moved}.")?;
     tell_column(rt, store, lost)

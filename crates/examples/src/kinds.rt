@@ -1,10 +1,9 @@
 // Examples of each kind: its digits and bytes both ways, what is refused, edge values and sums.
 use std::fmt::Debug;
-use std::process::Abort;
 use symbol::{Byte, Stand, Symbol, WrongLength};
 
 // These are a symbol's digits, both ways.
-fn digits<X: Symbol + Debug, const N: usize>(rt: &impl Abort, x: X, text: [u8; N]) {
+fn digits<X: Symbol + Debug, const N: usize>(rt: &HostRuntime, x: X, text: [u8; N]) {
     assert_eq!(rt; X::read_digits(&text), Some(x));
     let mut part = [0u8; N];
     assert_eq!(rt; x.write_digits(&mut part), Ok(()));
@@ -13,7 +12,7 @@ fn digits<X: Symbol + Debug, const N: usize>(rt: &impl Abort, x: X, text: [u8; N
 
 // None of these texts and bytes is read, and a symbol is not written over this part.
 fn refuses<X: Symbol + Debug, const N: usize>(
-    rt: &impl Abort,
+    rt: &HostRuntime,
     x: X,
     texts: &[&[u8]],
     bytes: &[u8],
@@ -30,7 +29,7 @@ fn refuses<X: Symbol + Debug, const N: usize>(
 }
 
 // Two symbols that differ have this sum, and one added to itself gives zero.
-fn sums<X: Symbol + Debug>(rt: &impl Abort, x: X, y: X, sum: X) {
+fn sums<X: Symbol + Debug>(rt: &HostRuntime, x: X, y: X, sum: X) {
     assert_eq!(rt; x.add(y), sum);
     assert_eq!(rt; x.add(x), X::zero());
     assert!(rt; x.same(x) && !x.same(y));

@@ -124,9 +124,7 @@ impl<'a, 't> Day<'a, 't> {
             "Column {lost} is quoted at {count} reads; whole columns would take {whole}."
         )?;
         let before = self.table.meter();
-        rebuild(self.array, &mut self.table, quote, &mut self.work).map_err(
-            |rejected| rejected.refusal,
-        )?;
+        rebuild(self.array, &mut self.table, quote, &mut self.work)?;
         self.book.bring_back(lost);
         let moved = self.table.meter().wrapping_sub(before);
         println!(self.rt; "Rebuilt; the meter moved by {moved}.")?;

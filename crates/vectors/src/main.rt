@@ -54,7 +54,7 @@ fn rebuild_all<X: Symbol, S: ColumnStore<X>>(
         spoil(store, column, other)?;
         let quote = quote(array, store, column)?;
         let before = store.meter();
-        rebuild(array, store, quote, work).map_err(|rejected| rejected.refusal)?;
+        rebuild(array, store, quote, work)?;
         let moved = store.meter().wrapping_sub(before);
         let sum = column_checksum(store, column)?;
         println!(rt; "  {column} {moved} {sum:08X}")?;
