@@ -1,11 +1,10 @@
--- Bytes after bytes, a symbol of its whole part, and the line of a place.
-use Rattle.std.proofs.Common.{◌≡◌, ℕ, zero, suc, ◌+◌, ◌-◌, ◌*◌, ◌/◌, ◌%◌, ◌<◌, ◌≤◌, List, [], ◌∷◌, ◌++◌, length, get_or, take, unwrap_or, sym, refl, ap, ap₂, ◌∙◌, div-add-mod', arith}
+-- Bytes after bytes, symbols filled up with others, and the line of a place.
+use Rattle.std.proofs.Common.{◌≡◌, ℕ, zero, suc, ◌+◌, ◌-◌, ◌*◌, ◌/◌, ◌%◌, ◌<◌, ◌≤◌, List, [], ◌∷◌, ◌++◌, length, get_or, take, replicate, sym, refl, ap, ap₂, ◌∙◌, div-add-mod', arith}
 use Rattle.std.proofs.Math.Nat.{add-zero, add-suc}
 use Rattle.std.proofs.Math.Numerals.{add-one}
-use Rattle.std.proofs.lemmas.Bool.{eq-eqb}
 use Rattle.std.proofs.lemmas.List.{length-take-le}
 use Rattle.std.proofs.lemmas.List.FromFn.{fill_by_all, length-map-range_with_len}
-use Rattle.symbol.specs.Kinds.{from_bytes}
+use Rattle.std.proofs.lemmas.List.{take_all}
 use Rattle.drawn.specs.Drawn.{next, after, drawn_byte, drawn_bytes, drawn_symbol, drawn_symbols}
 
 pub after_none : (state : ℕ) → after 0 state ≡ state
@@ -38,9 +37,13 @@ pub symbols_more : {X : Type 0} (w : ℕ) (symbol : List ℕ → X) (n state : �
 unfolding drawn_symbols
 symbols_more w symbol n state past now x p h e = rw add-one (e ∙ ap₂ (λ xs y. xs ++ (y ∷ [])) p h)
 
-pub whole : {X : Type 0} (w : ℕ) (symbol : List ℕ → X) (part : List ℕ) (d : X) → length part ≡ w → unwrap_or (from_bytes w symbol part) d ≡ symbol part
-whole w symbol part d long = rw (eq-eqb (length part) w long) refl
-
 -- the place of a line's column and row is the line
 pub line_place : (i n : ℕ) → (i / n + 1 - 1) * n + i % n ≡ i
 line_place i n = let e : i / n + 1 - 1 ≡ i / n = omega arith in ap (λ k. k * n + i % n) e ∙ div-add-mod' i n
+
+pub mul-add-r : (a b n : ℕ) → (a + b) * n ≡ a * n + b * n
+mul-add-r a b n = omega arith
+
+-- filled up to n
+pub filled : {X : Type 0} (xs : List X) (len m k n : ℕ) (x : X) → len ≡ length xs → len ≡ m → n ≡ m + k → take n xs ++ replicate (n - len) x ≡ xs ++ replicate k x
+filled xs len m k n x ok long e = ap₂ (λ ys j. ys ++ replicate j x) (take_all n xs (omega arith)) (omega arith)

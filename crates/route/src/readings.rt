@@ -29,8 +29,6 @@ pub fn cells(heap: Global, shape: Shape) -> Result<Vec<Stand>, AllocError>
     for place in 0..shape.k * rows {
         cells.push(reading(place / rows + 1, place % rows))?;
     }
-    for _zero in 0..shape.parities() * rows {
-        cells.push(Stand::zero())?;
-    }
+    cells.resize(shape.columns() * rows, Stand::zero())?;
     Ok(cells)
 }
