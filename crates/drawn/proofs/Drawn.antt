@@ -1,10 +1,12 @@
--- Bytes after bytes, symbols filled up with others, and the line of a place.
-use Rattle.std.proofs.Common.{◌≡◌, ℕ, zero, suc, ◌+◌, ◌-◌, ◌*◌, ◌/◌, ◌%◌, ◌<◌, ◌≤◌, List, [], ◌∷◌, ◌++◌, length, get_or, take, replicate, sym, refl, ap, ap₂, ◌∙◌, div-add-mod', arith}
+-- Bytes after bytes, symbols filled up with others, the line of a place, and a part that is long enough.
+use Rattle.std.proofs.Common.{◌≡◌, ℕ, zero, suc, ◌+◌, ◌-◌, ◌*◌, ◌/◌, ◌%◌, ◌<◌, ◌≤◌, List, [], ◌∷◌, ◌++◌, length, get_or, take, replicate, Ok, Err, Result, sym, refl, ap, ap₂, ◌∙◌, div-add-mod', arith}
 use Rattle.std.proofs.Math.Nat.{add-zero, add-suc}
 use Rattle.std.proofs.Math.Numerals.{add-one}
 use Rattle.std.proofs.lemmas.List.{length-take-le}
 use Rattle.std.proofs.lemmas.List.FromFn.{fill_by_all, length-map-range_with_len}
 use Rattle.std.proofs.lemmas.List.{take_all}
+use Rattle.std.specs.Result.{IsOk}
+use Rattle.symbol.specs.Kinds.{Wrote}
 use Rattle.drawn.specs.Drawn.{next, after, drawn_byte, drawn_bytes, drawn_symbol, drawn_symbols}
 
 pub after_none : (state : ℕ) → after 0 state ≡ state
@@ -47,3 +49,8 @@ mul-add-r a b n = omega arith
 -- filled up to n
 pub filled : {X : Type 0} (xs : List X) (len m k n : ℕ) (x : X) → len ≡ length xs → len ≡ m → n ≡ m + k → take n xs ++ replicate (n - len) x ≡ xs ++ replicate k x
 filled xs len m k n x ok long e = ap₂ (λ ys j. ys ++ replicate j x) (take_all n xs (omega arith)) (omega arith)
+
+-- a part of the right length is written
+pub written : {E : Type 0} (bytes before after : List ℕ) (r : Result Unit E) → Wrote bytes before after r → length before ≡ length bytes → IsOk r
+written bytes before after (Ok done) h long = refl
+written bytes before after (Err e) h long = absurd (h.0 long)
