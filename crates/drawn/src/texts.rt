@@ -53,14 +53,11 @@ pub fn text_of<X: Symbol>(heap: Global, shape: Shape, cells: &[X]) -> Result<Vec
 {
     let rows = shape.rows();
     let mut text = Vec::new(heap);
-    for line in 0..shape.columns() * rows {
-        let symbol = cells.get(line).copied().unwrap_or(X::zero());
-        push_frame(
-            &mut text,
-            (line / rows + 1) as u8,
-            (line % rows) as u16,
-            symbol,
-        )?;
+    for column in 0..shape.columns() {
+        for row in 0..rows {
+            let symbol = cells.get(column * rows + row).copied().unwrap_or(X::zero());
+            push_frame(&mut text, (column + 1) as u8, row as u16, symbol)?;
+        }
     }
     Ok(text)
 }
