@@ -23,9 +23,11 @@ fn mixed(sum: u32, bytes: &[u8]) -> u32
 fn mixed_symbol<X: Symbol>(sum: u32, symbol: X) -> u32
     ensures { result ≡ fold mixed sum (X.Symbol.bytes symbol) }
 {
+    // No heap here: a symbol has at most 16 bytes.
     let mut bytes = [0; 16];
     let bytes = &mut bytes[..X::width()];
-    let _ = symbol.write_bytes(bytes);
+    // The part is as long as the symbol is wide.
+    symbol.write_bytes(bytes).unwrap();
     mixed(sum, bytes)
 }
 

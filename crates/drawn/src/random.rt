@@ -37,7 +37,8 @@ impl Random {
         ensures state { self.new.0 ≡ after 16 self.old.0 }
     {
         let bytes = self.bytes();
-        X::read_bytes(&bytes[..X::width()]).unwrap_or(X::zero())
+        // 16 bytes are enough for every kind.
+        X::read_bytes(&bytes[..X::width()]).unwrap()
     }
 
     // The symbols of an array that is not founded yet, its columns one after another: the data columns are drawn, the
@@ -51,9 +52,7 @@ impl Random {
         for _drawn in 0..shape.k * rows {
             cells.push(self.symbol())?;
         }
-        for _zero in 0..shape.parities() * rows {
-            cells.push(X::zero())?;
-        }
+        cells.resize(shape.columns() * rows, X::zero())?;
         Ok(cells)
     }
 }

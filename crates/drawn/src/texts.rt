@@ -5,12 +5,14 @@ ghost use Rattle.code.specs.Places.{symbols_of};
 ghost use Rattle.code.specs.Shapes.{columns_of, rows_of};
 ghost use Rattle.frames.specs.Format.{label, frame, render};
 
+use crate::digits::digits_of;
 use code::Shape;
 use frames::digits;
 use std::alloc::{AllocError, Global};
 use symbol::Symbol;
 
-// Appends the mark and the label of a present column's frame.
+// Appends the mark and the label of a present column's frame. The label stands here again: that of `frames` is private,
+// and a public one would be for this crate alone.
 fn push_label(text: &mut Vec<u8>, column: u8, row: u16) -> Result<(), AllocError>
     ensures { OnOk result (text.new.items ≡ text.old.items ++ 80 ∷ label column row) }
 {
@@ -26,10 +28,7 @@ fn push_label(text: &mut Vec<u8>, column: u8, row: u16) -> Result<(), AllocError
 fn push_digits<X: Symbol>(text: &mut Vec<u8>, symbol: X) -> Result<(), AllocError>
     ensures { OnOk result (text.new.items ≡ text.old.items ++ hex (X.Symbol.bytes symbol)) }
 {
-    let mut digits = [0; 32];
-    let digits = &mut digits[..2 * X::width()];
-    let _ = symbol.write_digits(digits);
-    text.extend_from_slice(digits)?;
+    text.extend_from_slice(digits_of(symbol, &mut [0; 32]))?;
     Ok(())
 }
 
@@ -54,14 +53,11 @@ pub fn text_of<X: Symbol>(heap: Global, shape: Shape, cells: &[X]) -> Result<Vec
 {
     let rows = shape.rows();
     let mut text = Vec::new(heap);
-    for line in 0..shape.columns() * rows {
-        let symbol = cells.get(line).copied().unwrap_or(X::zero());
-        push_frame(
-            &mut text,
-            (line / rows + 1) as u8,
-            (line % rows) as u16,
-            symbol,
-        )?;
+    for column in 0..shape.columns() {
+        for row in 0..rows {
+            let symbol = cells.get(column * rows + row).copied().unwrap_or(X::zero());
+            push_frame(&mut text, (column + 1) as u8, row as u16, symbol)?;
+        }
     }
     Ok(text)
 }

@@ -26,11 +26,11 @@ pub fn cells(heap: Global, shape: Shape) -> Result<Vec<Stand>, AllocError>
 {
     let rows = shape.rows();
     let mut cells = Vec::new(heap);
-    for place in 0..shape.k * rows {
-        cells.push(reading(place / rows + 1, place % rows))?;
+    for column in 0..shape.k {
+        for row in 0..rows {
+            cells.push(reading(column + 1, row))?;
+        }
     }
-    for _zero in 0..shape.parities() * rows {
-        cells.push(Stand::zero())?;
-    }
+    cells.resize(shape.columns() * rows, Stand::zero())?;
     Ok(cells)
 }
