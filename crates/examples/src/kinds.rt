@@ -1,63 +1,45 @@
 // Examples of each kind: its digits and bytes both ways, what is refused, edge values and sums.
-use std::fmt::Debug;
 use symbol::{Byte, Stand, Symbol, WrongLength};
 
-// These are a symbol's digits, both ways.
-fn digits<X: Symbol + Debug, const N: usize>(rt: &HostRuntime, x: X, text: [u8; N]) {
-    assert_eq!(rt; X::read_digits(&text), Some(x));
+// Whether these are a symbol's digits, both ways.
+fn has_digits<X: Symbol, const N: usize>(x: X, text: [u8; N]) -> bool {
     let mut part = [0u8; N];
-    assert_eq!(rt; x.write_digits(&mut part), Ok(()));
-    assert_eq!(rt; part, text);
+    X::read_digits(&text) == Some(x) && x.write_digits(&mut part) == Ok(()) && part == text
 }
 
-// None of these texts and bytes is read, and a symbol is not written over this part.
-fn refuses<X: Symbol + Debug, const N: usize>(
-    rt: &HostRuntime,
-    x: X,
-    texts: &[&[u8]],
-    bytes: &[u8],
-    part: [u8; N],
-) {
-    for text in texts {
-        assert_eq!(rt; X::read_digits(text), None, "the text {text:?}");
-    }
-    assert_eq!(rt; X::read_bytes(bytes), None);
+// Whether none of these texts and bytes is read, and a symbol is not written over this part.
+fn refuses<X: Symbol, const N: usize>(x: X, texts: &[&[u8]], bytes: &[u8], part: [u8; N]) -> bool {
     let mut kept = part;
-    assert_eq!(rt; x.write_digits(&mut kept), Err(WrongLength));
-    assert_eq!(rt; x.write_bytes(&mut kept), Err(WrongLength));
-    assert_eq!(rt; kept, part);
+    texts.iter().all(|text| X::read_digits(text).is_none())
+        && X::read_bytes(bytes).is_none()
+        && x.write_digits(&mut kept) == Err(WrongLength)
+        && x.write_bytes(&mut kept) == Err(WrongLength)
+        && kept == part
 }
 
-// Two symbols that differ have this sum, and one added to itself gives zero.
-fn sums<X: Symbol + Debug>(rt: &HostRuntime, x: X, y: X, sum: X) {
-    assert_eq!(rt; x.add(y), sum);
-    assert_eq!(rt; x.add(x), X::zero());
-    assert!(rt; x.same(x) && !x.same(y));
+// Whether two symbols that differ have this sum, and one added to itself gives zero.
+fn have_sum<X: Symbol>(x: X, y: X, sum: X) -> bool {
+    x.add(y) == sum && x.add(x) == X::zero() && x.same(x) && !x.same(y)
 }
 
 #[test]
 fn byte_digits(rt: HostRuntime) {
-    digits(&rt, Byte { value: 0x5A }, *b"5A");
+    assert!(rt; has_digits(Byte { value: 0x5A }, *b"5A"));
 }
 
 #[test]
 fn byte_refuses(rt: HostRuntime) {
-    refuses(
-        &rt,
-        Byte { value: 1 },
-        &[b"5a", b"5", b"5A0"],
-        &[1, 2],
-        [7; 3],
-    );
+    assert!(rt; refuses(Byte { value: 1 }, &[b"5a", b"5", b"5A0"], &[1, 2], [7; 3]));
 }
 
 #[test]
 fn byte_sums(rt: HostRuntime) {
-    sums(
-        &rt,
-        Byte { value: 0x5A },
-        Byte { value: 0xFF },
-        Byte { value: 0xA5 },
+    assert!(rt;
+        have_sum(
+            Byte { value: 0x5A },
+            Byte { value: 0xFF },
+            Byte { value: 0xA5 }
+        )
     );
 }
 
@@ -79,7 +61,7 @@ fn stand_digits(rt: HostRuntime) {
         stock: 0x0102,
         cash: 0x03040506,
     };
-    digits(&rt, x, *b"010203040506");
+    assert!(rt; has_digits(x, *b"010203040506"));
 }
 
 #[test]
@@ -99,12 +81,13 @@ fn stand_edges(rt: HostRuntime) {
 
 #[test]
 fn stand_refuses(rt: HostRuntime) {
-    refuses(
-        &rt,
-        Stand::zero(),
-        &[b"01020304050a", b"01020304050"],
-        &[1, 2, 3, 4, 5],
-        [7; 5],
+    assert!(rt;
+        refuses(
+            Stand::zero(),
+            &[b"01020304050a", b"01020304050"],
+            &[1, 2, 3, 4, 5],
+            [7; 5]
+        )
     );
 }
 
@@ -122,7 +105,7 @@ fn stand_sums(rt: HostRuntime) {
         stock: 65280,
         cash: 4294967294,
     };
-    sums(&rt, x, y, sum);
+    assert!(rt; have_sum(x, y, sum));
     assert!(rt;
         !x.same(Stand {
             stock: 65535,
