@@ -55,11 +55,17 @@ fn refuses_heads_and_shapes(rt: HostRuntime) -> Result<(), Fail> {
 }
 
 #[test]
+fn input_spelled_out(rt: HostRuntime) -> Result<(), Fail> {
+    let input = input(rt.alloc(), 0)?;
+    assert!(rt; input.starts_with(b"H 04 02 03\nP 01 0000 00\n"));
+    Ok(())
+}
+
+#[test]
 fn refuses_texts(rt: HostRuntime) -> Result<(), Fail> {
     let heap = rt.alloc();
     let mut input = input(heap, 0)?;
     assert_eq!(rt; input.len(), 739);
-    assert!(rt; &input[..24] == b"H 04 02 03\nP 01 0000 00\n".as_slice());
     prints(&rt, heap, &input[..738], b"E 07\n")?;
     input[11 + 13] = b'L';
     prints(&rt, heap, &input, b"E 09\n")?;
