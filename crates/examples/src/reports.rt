@@ -62,11 +62,18 @@ fn input_spelled_out(rt: HostRuntime) -> Result<(), Fail> {
 }
 
 #[test]
+fn refuses_short_texts(rt: HostRuntime) -> Result<(), Fail> {
+    let heap = rt.alloc();
+    let mut input = input(heap, 0)?;
+    input.truncate(738);
+    prints(&rt, heap, &input, b"E 07\n")
+}
+
+#[test]
 fn refuses_texts(rt: HostRuntime) -> Result<(), Fail> {
     let heap = rt.alloc();
     let mut input = input(heap, 0)?;
     assert_eq!(rt; input.len(), 739);
-    prints(&rt, heap, &input[..738], b"E 07\n")?;
     input[11 + 13] = b'L';
     prints(&rt, heap, &input, b"E 09\n")?;
     input[11 + 10] = b'f';
