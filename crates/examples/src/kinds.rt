@@ -2,7 +2,7 @@
 use symbol::{Byte, Stand, Symbol, WrongLength};
 
 // Whether these are a symbol's digits, both ways.
-fn has_digits<X: Symbol, const N: usize>(x: X, text: [u8; N]) -> bool {
+fn has_digits<X: Symbol + PartialEq, const N: usize>(x: X, text: [u8; N]) -> bool {
     let mut part = [0u8; N];
     X::read_digits(&text) == Some(x) && x.write_digits(&mut part) == Ok(()) && part == text
 }
@@ -18,7 +18,7 @@ fn refuses<X: Symbol, const N: usize>(x: X, texts: &[&[u8]], bytes: &[u8], part:
 }
 
 // Whether two symbols that differ have this sum, and one added to itself gives zero.
-fn have_sum<X: Symbol>(x: X, y: X, sum: X) -> bool {
+fn have_sum<X: Symbol + PartialEq>(x: X, y: X, sum: X) -> bool {
     x.add(y) == sum && x.add(x) == X::zero() && x.same(x) && !x.same(y)
 }
 

@@ -9,11 +9,10 @@ use Rattle.store.specs.View.{View, Column, Inside}
 use Rattle.frames.specs.Lines.{stride, over, marked}
 use Rattle.frames.specs.Format.{marks_in, symbols_in}
 use Rattle.frames.specs.Checks.{text_refusal}
-use Rattle.std.specs.declared.cmp.PartialEq.{Ghosts as Equality}
 use Rattle.symbol.specs.declared.kind.Symbol.{Ghosts}
 use Rattle.frames.specs.declared.frames.Frames.{Frames}
 
-abbrev pub frames_view : {X : Type 0} {K : Ghosts X} {E : Equality X} → X → ℕ → (List ℕ → X) → Frames X K E → View X
+abbrev pub frames_view : {X : Type 0} {K : Ghosts X} → X → ℕ → (List ℕ → X) → Frames X K → View X
 frames_view none w symbol t = record {
   columns = t.columns;
   rows = t.rows;
@@ -51,21 +50,21 @@ Remarks view s c mark (Ok _) s' = Column (view s) c × Remarked (view s) c mark 
 Remarks view s c mark (Err e) s' = (Column (view s) c → ⊥) × (e ≡ NoSuchPlace c 0) × (s' ≡ s)
 
 -- the text is well formed, for the store's columns and rows
-abbrev pub WellFormed : {X : Type 0} {K : Ghosts X} {E : Equality X} → ℕ → Frames X K E → Type 0
+abbrev pub WellFormed : {X : Type 0} {K : Ghosts X} → ℕ → Frames X K → Type 0
 WellFormed w t = text_refusal t.columns t.rows w t.text.now ≡ None
 
 -- columns and rows are as they were, and a text that was well formed is so still
-pub record Stays {X : Type 0} {K : Ghosts X} {E : Equality X} (w : ℕ) (t t' : Frames X K E) : Type 0 where
+pub record Stays {X : Type 0} {K : Ghosts X} (w : ℕ) (t t' : Frames X K) : Type 0 where
   pub columns : t'.columns ≡ t.columns
   pub rows : t'.rows ≡ t.rows
   pub formed : WellFormed w t → WellFormed w t'
 
 -- the bytes after a column is marked: the marks of its lines, and nothing else
-abbrev pub Marks : {X U : Type 0} {K : Ghosts X} {E : Equality X} → ℕ → Frames X K E → ℕ → ℕ → Result U Refusal → Frames X K E → Type 0
+abbrev pub Marks : {X U : Type 0} {K : Ghosts X} → ℕ → Frames X K → ℕ → ℕ → Result U Refusal → Frames X K → Type 0
 Marks w t c mark (Ok _) t' = t'.text.now ≡ marked w t.text.now ((c - 1) * t.rows) t.rows mark
 Marks w t c mark (Err e) t' = t' ≡ t
 
 -- the bytes after a symbol is written: the digits of its line, and nothing else
-abbrev pub Puts : {X U : Type 0} {K : Ghosts X} {E : Equality X} → ℕ → Frames X K E → ℕ → ℕ → List ℕ → Result U Refusal → Frames X K E → Type 0
+abbrev pub Puts : {X U : Type 0} {K : Ghosts X} → ℕ → Frames X K → ℕ → ℕ → List ℕ → Result U Refusal → Frames X K → Type 0
 Puts w t c r digits (Ok _) t' = t'.text.now ≡ over t.text.now (place_of t.rows c r * stride w + 10) digits
 Puts w t c r digits (Err e) t' = t' ≡ t

@@ -19,7 +19,9 @@ use symbol::Symbol;
 fn lowest_helper<X: Symbol, S: ColumnStore<X>>(store: &S, plan: &Plan) -> Option<usize>
     ensures { result ≡ lowest_of (λ c. helper_of plan.now.shape plan.now.lost c && counts_as_lost (S.ColumnStore.view store.now) c) (columns_of plan.now.shape) }
 {
-    (1..=plan.shape().columns()).find(|c| plan.helper(*c) && store.is_lost(*c))
+    (0..plan.shape().columns())
+        .find(|c| plan.helper(c + 1) && store.is_lost(c + 1))
+        .map(|c| c + 1)
 }
 
 // The lowest lost helper of a column, if one is lost.

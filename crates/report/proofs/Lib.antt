@@ -1,3 +1,4 @@
+mod Ascii
 pub mod Digits
 pub mod Kept
 pub mod Rows

@@ -1,7 +1,6 @@
 -- What a frame store over a text that passed the check means.
 use Rattle.std.proofs.Common.{◌≡◌, ℕ, true, List, None, ◌∙◌, ap₂}
 use Rattle.std.proofs.lemmas.Bool.{eq-eqb}
-use Rattle.std.specs.declared.cmp.PartialEq.{Ghosts as Equality}
 use Rattle.symbol.specs.declared.kind.Symbol.{Ghosts}
 use Rattle.symbol.specs.declared.byte.Byte.{Byte}
 use Rattle.symbol.specs.Bytes.{byte, byte_of}
@@ -16,11 +15,11 @@ use Rattle.frames.specs.declared.frames.Frames.{Frames}
 use Rattle.report.specs.Printed.{marks, symbols, told}
 
 -- the view of a store of frames of bytes
-abbrev pub view_of : {K : Ghosts Byte} {E : Equality Byte} → Frames Byte K E → View Byte
+abbrev pub view_of : {K : Ghosts Byte} → Frames Byte K → View Byte
 view_of t = frames_view (byte 0) 1 byte_of t
 
 module _
-    {K : Ghosts Byte} {E : Equality Byte} (s : Shape) (text : List ℕ) (owner : ℕ) (t : Frames Byte K E) (memory : t.text.now ≡ text)
+    {K : Ghosts Byte} (s : Shape) (text : List ℕ) (owner : ℕ) (t : Frames Byte K) (memory : t.text.now ≡ text)
     (new : Over (byte 0) 1 byte_of s text owner (view_of t)) (passed : text_refusal (columns_of s) (rows_of s) 1 text ≡ None) where
   columns_are : (view_of t).columns ≡ columns_of s
   columns_are = new.columns ∙ rw passed

@@ -3,10 +3,24 @@ ghost use Rattle.std.specs.Prelude.{◌≡◌, ◌<◌, ◌++◌, IfOk, OnOk, st
 ghost use Rattle.report.specs.Printed.{present as present_of, summary as summary_of, refused as refused_of};
 
 use code::Refusal;
+use frames::digits;
 use std::alloc::{AllocError, Global};
 use symbol::Byte;
 
-// Adds the frame of a byte in a present column.
+// The frame of a byte in a present column, put together by hand: `writeln!` of a line for each row took a third more time
+// of a whole rebuild of seven columns.
+fn frame(column: u8, row: u16, symbol: Byte) -> [u8; 13]
+    ensures { result ≡ present_of column row symbol }
+{
+    let [high, low] = row.to_be_bytes();
+    let [a, b] = digits(column);
+    let [c, d] = digits(high);
+    let [e, f] = digits(low);
+    let [g, h] = digits(symbol.value);
+    [b'P', b' ', a, b, b' ', c, d, e, f, b' ', g, h, b'\n']
+}
+
+// Adds that frame.
 pub(crate) fn put_frame(
     out: &mut String,
     column: usize,
@@ -17,7 +31,9 @@ pub(crate) fn put_frame(
     requires row { row < 65536 }
     ensures { OnOk result (string_bytes out.new ≡ string_bytes out.old ++ present_of column row symbol) }
 {
-    writeln!(out, "P {column:02X} {row:04X} {:02X}", symbol.value)
+    let line = frame(column as u8, row as u16, symbol);
+    // Letters, digits and spaces are UTF-8.
+    out.push_str(str::from_utf8(&line).unwrap())
 }
 
 // Adds the last line.

@@ -25,8 +25,6 @@ impl Symbol for Byte {
 
     ghost symbol = { byte_of };
 
-    ghost exact = { Prim.search rules };
-
     ghost group = { record {
       monoid = record {
         assoc = λ x y z. ap byte (xor_assoc x.value y.value z.value);
@@ -52,6 +50,10 @@ impl Symbol for Byte {
         Byte {
             value: self.value ^ other.value,
         }
+    }
+
+    fn same(self, other: Byte) -> bool {
+        self == other
     }
 
     fn width() -> usize {

@@ -7,7 +7,7 @@ ghost use Rattle.symbol.specs.Kinds.{Tells, from_bytes, from_digits, Wrote};
 use crate::hex::{read_hex, write_hex};
 use crate::wrong_length::WrongLength;
 
-pub trait Symbol: Copy + PartialEq {
+pub trait Symbol: Copy {
     ghost zero: { Self };
 
     ghost plus: { Self → Self → Self };
@@ -25,11 +25,9 @@ pub trait Symbol: Copy + PartialEq {
     fn add(self, other: Self) -> Self
         ensures { result ≡ plus self other };
 
+    // Each kind's own: a body here would ask of every kind an `==`, and that it is exact.
     fn same(self, other: Self) -> bool
-        ensures { Tells self other result }
-    {
-        self == other
-    }
+        ensures { Tells self other result };
 
     fn width() -> usize
         ensures { result ≡ width };
@@ -63,9 +61,6 @@ pub trait Symbol: Copy + PartialEq {
         self.write_bytes(&mut bytes[..width])?;
         write_hex(&bytes[..width], part)
     }
-
-    // `==` answers true exactly for the same symbol.
-    ghost exact: { (x y : Self) → Tells x y (Self.eq x y) };
 
     ghost group: { BooleanGroup zero plus };
 

@@ -26,8 +26,6 @@ impl Symbol for Stand {
 
     ghost symbol = { stand_of };
 
-    ghost exact = { Prim.search rules };
-
     ghost group = { record {
       monoid = record {
         assoc = λ x y z. both (xor_assoc x.stock y.stock z.stock) (xor_assoc x.cash y.cash z.cash);
@@ -67,6 +65,10 @@ impl Symbol for Stand {
             stock: self.stock ^ other.stock,
             cash: self.cash ^ other.cash,
         }
+    }
+
+    fn same(self, other: Stand) -> bool {
+        self == other
     }
 
     fn width() -> usize {

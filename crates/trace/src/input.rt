@@ -32,10 +32,12 @@ pub(crate) struct Head {
 }
 
 // The first of some words as numbers; one that is missing is 0. `vectors` reads its lines so too, in as few words.
-fn numbers<const N: usize>(words: SplitWhitespace) -> Result<[usize; N], ParseIntError> {
-    let mut numbers = [0; N];
+fn numbers<T: FromStr<Err = ParseIntError> + Copy + Default, const N: usize>(
+    words: SplitWhitespace,
+) -> Result<[T; N], ParseIntError> {
+    let mut numbers = [T::default(); N];
     for (number, word) in numbers.iter_mut().zip(words) {
-        *number = word.parse::<usize>()?;
+        *number = word.parse::<T>()?;
     }
     Ok(numbers)
 }
@@ -54,12 +56,13 @@ impl FromStr for Head {
             Some("text") => Place::Text,
             _ => Place::Table,
         };
-        let [k, q, p, seed] = numbers::<4>(words)?;
+        // All four are read, as numbers of 32 bits, before the shape is tried.
+        let [k, q, p, seed] = numbers::<u32, 4>(words)?;
         Ok(Head {
             kind,
             place,
-            shape: Shape::new(k, q, p)?,
-            seed: u32::try_from(seed)?,
+            shape: Shape::new(k as usize, q as usize, p as usize)?,
+            seed,
         })
     }
 }
@@ -94,7 +97,7 @@ fn call<X: Symbol>(letter: &str, text: &str) -> anyhow::Result<Call<X>> {
     if letter == "P" {
         return put_call(text);
     }
-    let [a, b, _, _, _] = numbers::<5>(text.split_whitespace())?;
+    let [a, b, _, _, _] = numbers::<usize, 5>(text.split_whitespace())?;
     match letter {
         "F" => Ok(Call::Found),
         "G" => Ok(Call::Get { column: a, row: b }),
@@ -119,7 +122,7 @@ pub(crate) fn calls<X: Symbol>(
         match letter {
             "" => {}
             "X" => {
-                let [k, q, p, column, slot] = numbers::<5>(rest.split_whitespace())?;
+                let [k, q, p, column, slot] = numbers::<usize, 5>(rest.split_whitespace())?;
                 let given = foreign(heap, Shape::new(k, q, p)?, column)?;
                 if let Some(place) = hand.get_mut(slot) {
                     *place = Some(given);

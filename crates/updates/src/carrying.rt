@@ -19,14 +19,16 @@ use symbol::Symbol;
 fn change_at<X: Symbol, S: ColumnStore<X>>(
     store: &mut S,
     column: usize,
+    rows: usize,
     position: usize,
     change: X,
 ) -> Result<usize, Refusal>
     requires column { Column (S.ColumnStore.view store.old) column }
+    requires rows { rows ≡ (S.ColumnStore.view store.old).rows }
     requires present { (S.ColumnStore.view store.old).lost column ≡ false }
     ensures { Accepts (λ n. Added X.Symbol.plus change (λ d y. (d == column) && y == position) (if nat_lt position (S.ColumnStore.view store.old).rows then 1 else 0) (S.ColumnStore.view store.old) n (S.ColumnStore.view store.new)) result }
 {
-    if position >= store.rows() {
+    if position >= rows {
         return Ok(0);
     }
     let symbol = read(store, column, position)?;
@@ -73,9 +75,11 @@ impl Place {
         if store.is_lost(target) {
             return Ok(0);
         }
+        // The shape's rows, so that the store is not asked at each position.
+        let rows = self.shape.rows();
         let (direct, through_class) = self.positions(parity);
-        let first = change_at(store, target, direct, change)?;
-        let second = change_at(store, target, through_class, change)?;
+        let first = change_at(store, target, rows, direct, change)?;
+        let second = change_at(store, target, rows, through_class, change)?;
         Ok(first + second)
     }
 

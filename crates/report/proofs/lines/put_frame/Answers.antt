@@ -1,8 +1,16 @@
-use Rattle.std.proofs.Common.{◌≡◌, [], ◌∷◌, ◌++◌, OnOk, string_bytes, rules, arith}
-use Rattle.report.proofs.Digits.{hexed, byte_digits, word_digits}
+use Rattle.std.proofs.Common.{◌≡◌, ◌++◌, OnOk, string_bytes, sym, ap, ◌∙◌, subst, arith, rules}
+use Rattle.std.specs.Str.{IsUtf8}
+use Rattle.report.proofs.Ascii.{frame_is_text, is_taken}
 use Rattle.report.proofs.lines.put_frame.Goals as goal
+
+pub unwrap-requires : goal.unwrap-requires
+unwrap-requires c =
+    let text = subst IsUtf8 (sym c.frame-line.ensures) (frame_is_text c.args.column c.args.row c.args.symbol c.requires.column c.requires.row (omega arith)) in
+    is_taken _ _ c.frame-line.result c.from_utf8.result c.from_utf8.ensures.cases text
 
 pub returns : goal.returns
 returns c =
-    let h : OnOk c.writeln.result (string_bytes c.writeln.new.self ≡ string_bytes c.args.out.now ++ (80 ∷ 32 ∷ [] ++ (hexed 2 c.args.column ++ (32 ∷ [] ++ (hexed 4 c.args.row ++ (32 ∷ [] ++ (hexed 2 c.args.symbol.value ++ (10 ∷ [])))))))) = search rules in
-    simp (byte_digits c.args.column c.requires.column, word_digits c.args.row c.requires.row, byte_digits c.args.symbol.value (omega arith)) at h
+    let (same, _) = rw c.unwrap.ensures at c.from_utf8.ensures.cases in
+    let line = same ∙ c.frame-line.ensures in
+    let h : OnOk c.push_str.result (string_bytes c.push_str.new.self ≡ string_bytes c.args.out.now ++ c.unwrap.result.now) = search rules in
+    rw line at h
