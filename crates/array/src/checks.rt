@@ -37,6 +37,6 @@ pub fn check_room(shape: Shape, room: usize) -> Result<(), Refusal>
 pub fn lowest_lost<X: Symbol, S: ColumnStore<X>>(store: &S, count: usize) -> Option<usize>
     ensures { result ≡ lowest_lost (counts_as_lost (S.ColumnStore.view store.now)) count }
 {
-    // From 0: over `1..=count` the search takes twice as long or more.
+    // From 0: over `1..=count` the search takes half as long again, or more.
     (0..count).find(|c| store.is_lost(c + 1)).map(|c| c + 1)
 }

@@ -88,7 +88,11 @@ impl<'a, X: Symbol> ColumnStore<X> for Frames<'a, X> {
     }
 
     fn is_lost(&self, column: usize) -> bool {
-        !self.line(column, 0).is_ok_and(|at| self.text[at] == b'P')
+        // Straight to the mark: by way of `line` and its refusal, asking for a mark takes twice as long.
+        if column < 1 || column > self.columns {
+            return true;
+        }
+        self.text[(column - 1) * self.rows * stride::<X>()] != b'P'
     }
 
     fn read(&mut self, column: usize, row: usize) -> Result<X, Refusal>

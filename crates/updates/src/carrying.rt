@@ -64,10 +64,12 @@ impl Place {
     fn change_parity<X: Symbol, S: ColumnStore<X>>(
         self,
         store: &mut S,
+        rows: usize,
         parity: usize,
         change: X,
     ) -> Result<usize, Refusal>
         requires fits { fits self.shape (S.ColumnStore.view store.old) ≡ true }
+        requires rows { rows ≡ rows_of self.shape }
         requires parity { (1 ≤ parity) × (parity ≤ parities_of self.shape) }
         ensures { Accepts (λ n. Added X.Symbol.plus change (λ d y. (d == self.shape.k + parity) && carries self.shape (S.ColumnStore.view store.old) self.column self.row d y) (carried self.shape (S.ColumnStore.view store.old) self.column self.row (self.shape.k + parity)) (S.ColumnStore.view store.old) n (S.ColumnStore.view store.new)) result }
     {
@@ -75,8 +77,6 @@ impl Place {
         if store.is_lost(target) {
             return Ok(0);
         }
-        // The shape's rows, so that the store is not asked at each position.
-        let rows = self.shape.rows();
         let (direct, through_class) = self.positions(parity);
         let first = change_at(store, target, rows, direct, change)?;
         let second = change_at(store, target, rows, through_class, change)?;
@@ -92,9 +92,11 @@ impl Place {
         requires { fits self.shape (S.ColumnStore.view store.old) ≡ true }
         ensures { Accepts (λ n. Added X.Symbol.plus change (carries self.shape (S.ColumnStore.view store.old) self.column self.row) (sum_to 0 ◌+◌ (parities_of self.shape) (λ j. carried self.shape (S.ColumnStore.view store.old) self.column self.row (self.shape.k + (j + 1)))) (S.ColumnStore.view store.old) n (S.ColumnStore.view store.new)) result }
     {
+        // Worked out once, and asked of the shape and not of the store.
+        let rows = self.shape.rows();
         let mut count = 0;
         for parity in 1..=self.shape.parities() {
-            count += self.change_parity(store, parity, change)?;
+            count += self.change_parity(store, rows, parity, change)?;
         }
         Ok(count)
     }

@@ -13,10 +13,10 @@ returns-then-is_lost g c =
     (really_lost v (s.k + c.args.parity) (omega (arith, c.requires.parity.0)) (omega (arith, wide s v c.requires.fits, c.requires.parity.1)) (sym c.is_lost.ensures ∙ c.if-is_lost.true))
 
 pub change_at-requires-clause-rows : goal.change_at-requires-clause-rows
-change_at-requires-clause-rows g c = c.rows-rows.ensures ∙ sym (long c.args.self.shape (g.S.ColumnStore.view c.args.store.now) c.requires.fits)
+change_at-requires-clause-rows g c = c.requires.rows ∙ sym (long c.args.self.shape (g.S.ColumnStore.view c.args.store.now) c.requires.fits)
 
 pub change_at-requires-2-clause-rows : goal.change_at-requires-2-clause-rows
-change_at-requires-2-clause-rows g c = c.rows-rows.ensures ∙ sym (long c.args.self.shape (g.S.ColumnStore.view c.args.store.now) c.requires.fits) ∙ sym c.in_ok-first.ensures.leaves.rows
+change_at-requires-2-clause-rows g c = c.requires.rows ∙ sym (long c.args.self.shape (g.S.ColumnStore.view c.args.store.now) c.requires.fits) ∙ sym c.in_ok-first.ensures.leaves.rows
 
 pub returns : goal.returns
 returns g c =
